@@ -1,0 +1,5 @@
+pub mod Labels
+pub mod Meaning
+pub mod Answers
+pub mod Equivalence
+pub mod Strong

@@ -1,0 +1,13 @@
+-- Strong equivalence of the states of two sources.
+use mathlib.Core.Path.{_≡_}
+use Prim.Native.Nat.{ℕ, _<_}
+use lib.ListN.{length}
+use Rattle.lts.specs.Meaning.{Meaning, label-at, target-at}
+use Rattle.lts.specs.Equivalence.{Equivalent}
+
+-- from a state below the count, a listed move with the label a leads to s′
+abbrev pub Step : Meaning → ℕ → ℕ → ℕ → Type 0
+Step m s a s′ = (s < m .count) × (k : ℕ) × (k < length (m .moves s)) × (label-at (m .moves s) k ≡ a) × (target-at (m .moves s) k ≡ s′)
+
+abbrev pub Strongly-equivalent : Meaning → Meaning → ℕ → ℕ → Type 0
+Strongly-equivalent l r s t = Equivalent (Step l) (Step r) s t

@@ -1,0 +1,12 @@
+// Labelled transition systems in whole seconds: labels, moves, the trait of
+// transition sources with its meaning and its laws, and strong equivalence.
+
+pub mod label;
+pub mod source;
+
+pub use label::is_label;
+pub use label::is_visible;
+pub use label::matches;
+pub use source::Move;
+pub use source::OutOfRange;
+pub use source::Source;
