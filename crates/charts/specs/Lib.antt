@@ -1,0 +1,6 @@
+pub mod Rows
+pub mod Meaning
+pub mod Faults
+pub mod Reading
+pub mod Sums
+pub mod Encoding

@@ -1,0 +1,5 @@
+// Charts: the state chart of a controller as a transition source.
+
+pub mod fault;
+pub mod row;
+mod reading;

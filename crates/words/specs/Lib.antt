@@ -1,0 +1,5 @@
+pub mod Faults
+pub mod Words
+pub mod Operators
+pub mod Decoded
+pub mod Encoded
