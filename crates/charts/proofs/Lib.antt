@@ -6,3 +6,5 @@ pub mod RowFaults
 pub mod Seconds
 pub mod RowsFaults
 pub mod Checking
+pub mod Filling
+pub mod Growing

@@ -4,3 +4,4 @@ pub mod Faults
 pub mod Reading
 pub mod Sums
 pub mod Encoding
+pub mod Tables

@@ -3,3 +3,4 @@
 pub mod fault;
 pub mod row;
 mod reading;
+mod tables;
