@@ -111,13 +111,13 @@ sized-ok : (xs ys : List Row) (o : Option ℕ) → sized xs o ≡ Ok ys → (o �
 sized-ok xs ys None e = (refl, same-ok xs ys e)
 sized-ok xs ys (Some p) e = never-ok _ ys e
 
-tested-ok : (r : Result (List Row) WordFault) (ys : List Row) → tested r ≡ Ok ys → (r ≡ Ok ys) × (overflow 0 1 ys ≡ None)
+pub tested-ok : (r : Result (List Row) WordFault) (ys : List Row) → tested r ≡ Ok ys → (r ≡ Ok ys) × (overflow 0 1 ys ≡ None)
 tested-ok (Ok xs) ys e =
     let a = sized-ok xs ys (overflow 0 1 xs) e in
     (ap (λ v. Ok v) (a .1), subst (λ (v : List Row). overflow 0 1 v ≡ None) (a .1) (a .0))
 tested-ok (Err f) ys e = never-ok _ ys e
 
-read-ok : (ws : List ℕ) (xs : List Row) → read-chart ws ≡ Ok xs → (length ws ≤ 16384) × (read-whole ws ≡ Ok xs)
+pub read-ok : (ws : List ℕ) (xs : List Row) → read-chart ws ≡ Ok xs → (length ws ≤ 16384) × (read-whole ws ≡ Ok xs)
 unfolding read-chart
 read-ok ws xs e =
     elim (cases-bool (ltb 16384 (length ws))) [

@@ -8,3 +8,5 @@ pub mod RowsFaults
 pub mod Checking
 pub mod Filling
 pub mod Growing
+pub mod Refilling
+pub mod Placing

@@ -5,3 +5,4 @@ pub mod Reading
 pub mod Sums
 pub mod Encoding
 pub mod Tables
+pub mod Charts

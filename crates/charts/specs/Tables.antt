@@ -43,6 +43,20 @@ unfoldable pub owners : ℕ → List Row → List ℕ
 owners r [] = []
 owners r (x ∷ xs) = replicate (size x) r ++ owners (suc r) xs
 
+-- the first state of each row and its number of offers, in the tables and by the rows
+abbrev pub entry-firsts : Tables → List ℕ
+entry-firsts t = map (λ e. e .first) (vec-items (t .rows))
+
+abbrev pub entry-counts : Tables → List ℕ
+entry-counts t = map (λ e. e .offers) (vec-items (t .rows))
+
+unfoldable pub firsts : ℕ → List Row → List ℕ
+firsts s [] = []
+firsts s (x ∷ xs) = s ∷ firsts (s + size x) xs
+
+abbrev pub offer-counts : List Row → List ℕ
+offer-counts xs = map (λ x. length (x .offers)) xs
+
 -- tables with the rows xs behind those that were there
 pub record Grown (es es′ : List RowEntry) (os os′ : List Offer) (ns ns′ : List ℕ) (xs : List Row) : Type 0 where
   pub entries : es′ ≡ es ++ laid (length ns) (length os) xs

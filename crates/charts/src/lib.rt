@@ -1,6 +1,8 @@
 // Charts: the state chart of a controller as a transition source.
 
+pub mod chart;
 pub mod fault;
 pub mod row;
+mod opening;
 mod reading;
 mod tables;

@@ -15,10 +15,10 @@ use words::WordFault;
 use words::arrow;
 
 // The most states that a source may have.
-const MOST_STATES: u32 = 4096;
+pub(crate) const MOST_STATES: u32 = 4096;
 
 // The most words that a file may have.
-const LONGEST: usize = 16_384;
+pub(crate) const LONGEST: usize = 16_384;
 
 // A row by its plain numbers: how long it is stayed in, and how many offers it
 // has.

@@ -5,14 +5,22 @@ ghost use Prim.Native.Nat.{ℕ, _+_, _<_, _≤_};
 ghost use lib.ListN.{length, replicate};
 ghost use Rattle.std.specs.Of.Vec.{vec-items, vec-len, vec-cap};
 ghost use Rattle.std.specs.Results.{isOk};
+ghost use Rattle.std.specs.Vec.{made};
 ghost use Rattle.charts.specs.Rows.{stay-states, total};
-ghost use Rattle.charts.specs.Reading.{read-offers, read-rows};
-ghost use Rattle.charts.specs.Tables.{good, entry-of, Grows, Room};
+ghost use Rattle.charts.specs.Reading.{read-offers, read-rows, check-chart};
+ghost use Rattle.charts.specs.Tables.{good, entry-of, Grows, Held, Room};
+use crate::reading::LONGEST;
+use crate::reading::MOST_STATES;
 use crate::reading::RowRead;
 use crate::reading::read_offer;
 use crate::reading::read_row;
 use crate::row::Offer;
 use crate::row::Stay;
+use std::alloc::AllocError;
+use std::alloc::Global;
+
+// The most rows that a chart may have.
+const MOST_ROWS: usize = 256;
 
 // One row: its first state, and where its offers stand among all offers.
 #[derive(Clone, Copy)]
@@ -33,8 +41,39 @@ pub(crate) struct Tables {
 }
 
 impl Tables {
+    // Empty tables with room for every chart.
+    pub(crate) fn with_room(heap: Global) -> Result<Tables, AllocError>
+        ensures { λ r. ⌜ made r (λ t. Room t × (vec-items (t .rows) ≡ []) × (vec-items (t .offers) ≡ []) × (vec-items (t .owners) ≡ [])) ⌝ }
+    {
+        Ok(Tables {
+            rows: Vec::with_capacity(heap, MOST_ROWS)?,
+            offers: Vec::with_capacity(heap, LONGEST)?,
+            owners: Vec::with_capacity(heap, MOST_STATES as usize)?,
+        })
+    }
+
+    // Replaces what the tables hold by the chart whose words these are, which
+    // were checked before.
+    pub(crate) fn refill(&mut self, words: &[u32])
+        requires known { ⌜ isOk (check-chart (now words)) ≡ true ⌝ }
+        requires room { ⌜ Room (now self) ⌝ }
+        ensures held { λ _. ⌜ Held (now (self .exit)) (good [] (check-chart (now (words .entry)))) ⌝ }
+        ensures room { λ _. ⌜ Room (now (self .exit)) ⌝ }
+    {
+        let [first, rest @ ..] = words else {
+            unreachable();
+        };
+        let Ok(rows) = words::rows(*first, 0) else {
+            unreachable();
+        };
+        self.rows.clear();
+        self.offers.clear();
+        self.owners.clear();
+        self.add_rows(rest, 1, rows, rows);
+    }
+
     // Adds a row, without its offers, and its states. There is room for it.
-    fn add_row(&mut self, row: RowRead)
+    pub(crate) fn add_row(&mut self, row: RowRead)
         requires room { ⌜ Room (now self) ⌝ }
         requires row { ⌜ vec-len (now self .rows) < 256 ⌝ }
         requires states { ⌜ vec-len (now self .owners) + stay-states (row .stay) ≤ 4096 ⌝ }

@@ -1,0 +1,23 @@
+ghost use mathlib.Core.Path.{_≡_};
+ghost use mathlib.Core.Bool.{true};
+ghost use Prim.Native.Nat.{_≤_};
+ghost use Rattle.std.specs.Of.Vec.{vec-items, vec-cap};
+ghost use Rattle.charts.specs.Rows.{within};
+ghost use Rattle.charts.specs.Tables.{table-rows, entry-firsts, entry-counts, firsts, offer-counts, owners};
+use crate::tables::Tables;
+
+// A chart in its place. The room for every chart is reserved when the place is
+// made, and then it holds the resting chart, one endless row without offers,
+// until it is filled from a file.
+#[derive(Drop)]
+pub struct Chart {
+    pub(crate) tables: Tables,
+    pub(crate) opened: bool,
+    ghost firsts: { entry-firsts tables ≡ firsts 0 (table-rows tables) },
+    ghost counts: { entry-counts tables ≡ offer-counts (table-rows tables) },
+    ghost owned: { vec-items (tables .owners) ≡ owners 0 (table-rows tables) },
+    ghost limits: { within (table-rows tables) ≡ true },
+    ghost row_room: { 256 ≤ vec-cap (tables .rows) },
+    ghost offer_room: { 16384 ≤ vec-cap (tables .offers) },
+    ghost owner_room: { 4096 ≤ vec-cap (tables .owners) },
+}
