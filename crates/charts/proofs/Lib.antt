@@ -10,3 +10,6 @@ pub mod Filling
 pub mod Growing
 pub mod Refilling
 pub mod Placing
+pub mod States
+pub mod Laws
+pub mod Answering

@@ -6,3 +6,4 @@ pub mod Sums
 pub mod Encoding
 pub mod Tables
 pub mod Charts
+pub mod Standing

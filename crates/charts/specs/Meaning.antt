@@ -1,7 +1,7 @@
 -- What a chart means as a transition source.
 use mathlib.Core.Bool.{cond}
 use mathlib.Core.List.{List, [], _∷_, _++_, map}
-use Prim.Native.Nat.{ℕ, suc}
+use Prim.Native.Nat.{ℕ, _+_}
 use lib.Dec.{ltb}
 use Rattle.lts.specs.declared.source.Move.{Move}
 use Rattle.lts.specs.Meaning.{Meaning}
@@ -20,7 +20,7 @@ offer-move xs o = record { label = o .label; target = arrival xs o }
 -- the last move of the state s, which stands j seconds into a row: a tick to the next state,
 -- from the last state of a finite row τ to the first of the timeout row, in an endless row a tick to itself
 unfoldable pub closing-move : List Row → Stay → ℕ → ℕ → Move ℕ
-closing-move xs (Finite d t) s j = cond (ltb j (seconds d)) (record { label = 128; target = suc s }) (record { label = 0; target = first xs t })
+closing-move xs (Finite d t) s j = cond (ltb j (seconds d)) (record { label = 128; target = s + 1 }) (record { label = 0; target = first xs t })
 closing-move xs Endless s j = record { label = 128; target = s }
 
 -- every state of a row lists the row's offers, then the closing move

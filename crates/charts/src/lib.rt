@@ -5,4 +5,5 @@ pub mod fault;
 pub mod row;
 mod opening;
 mod reading;
+pub mod source;
 mod tables;

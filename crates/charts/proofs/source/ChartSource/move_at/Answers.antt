@@ -1,0 +1,27 @@
+use mathlib.Core.Path.{_≡_}
+use Prim.Native.Nat.{ℕ}
+use native.Mathlib.Omega.{arith}
+use Rattle.std.proofs.shelf.Results.{err-from-errBy}
+use Rattle.charts.proofs.Answering.{few-offers-in, nth-offer, nth-past, nth-closing, no-move-at}
+use Rattle.charts.proofs.source.ChartSource.move_at.Needs as need
+
+pub returns-in-Break-row : need.returns-in-Break-row
+returns-in-Break-row c =
+    let p = err-from-errBy (c .from-residual .result) (c .from-residual .ensures .1) in
+    rw (p .1, p .2) (no-move-at (c .args .self .now) (c .args .s) (c .in-Break-row .ensures tt) (c .args .k))
+
+pub cast-offers : need.cast-offers
+cast-offers c = omega (arith, few-offers-in (c .args .self .now) (c .args .s) (c .in-Continue-row .row) (c .in-Continue-row .ensures tt))
+
+pub returns-then-k-offers : need.returns-then-k-offers
+returns-then-k-offers c =
+    nth-offer (c .args .self .now) (c .args .s) (c .in-Continue-row .row) (c .in-Continue-row .ensures tt) (c .args .k) (c .offer-move .result) (c .if-k-offers .taken) (c .offer-move .ensures)
+
+pub returns-then-k-offers-2 : need.returns-then-k-offers-2
+returns-then-k-offers-2 c =
+    nth-past (c .args .self .now) (c .args .s) (c .in-Continue-row .row) (c .in-Continue-row .ensures tt) (c .args .k) (c .if-k-offers-2 .taken)
+
+pub returns : need.returns
+returns c =
+    let h : c .args .k ≡ c .in-Continue-row .row .offers = omega arith in
+    nth-closing (c .args .self .now) (c .args .s) (c .in-Continue-row .row) (c .in-Continue-row .ensures tt) (c .args .k) (c .closing-move .result) h (c .closing-move .ensures)
