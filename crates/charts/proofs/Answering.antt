@@ -1,6 +1,6 @@
 -- What a chart's invariant says of its tables, as the questions need it.
 use mathlib.Core.Path.{_≡_, refl, sym, ap, subst, _∙_}
-use mathlib.Core.Bool.{true, false, cond, _&&_}
+use mathlib.Core.Bool.{true, false, cond}
 use mathlib.Core.List.{List, [], _∷_, _++_, map}
 use Prim.Native.Nat.{ℕ, _+_, _-_, _<_, _≤_, min}
 use native.Mathlib.Omega.{arith}
@@ -9,11 +9,12 @@ use lib.Dec.{eqb, ltb, leb}
 use lib.ListN.{length, take, drop, getD}
 use Rattle.std.specs.Of.Vec.{vec-items, vec-len}
 use Rattle.std.proofs.shelf.Lists.{length-map, length-append, length-take, length-drop, getD-at, getD-append-left, getD-map, getD-take, getD-drop, getD-default}
-use Rattle.std.proofs.shelf.Tests.{cond-true, cond-false, and-from, and-parts, and-left, and-right, lt-ltb, le-ltb, ltb-true, eq-eqb, ne-eqb}
+use Rattle.std.proofs.shelf.Tests.{cond-true, cond-false, and-parts, lt-ltb, le-ltb, ltb-true, eq-eqb, ne-eqb}
 use Rattle.std.specs.declared.option.Option.the-variants.{Some, None}
 use Rattle.std.specs.declared.result.Result.the-variants.{Ok, Err}
 use Rattle.lts.specs.declared.source.Move.{Move}
-use Rattle.lts.specs.Answers.{out-of-range, tick-of, move-count, nth-move, tick-target}
+use Rattle.lts.specs.Answers.{out-of-range, move-count, nth-move, tick-target}
+use Rattle.lts.proofs.Asked.{counted, found, past-moves, ticked}
 use Rattle.words.specs.Words.{most-tenths}
 use Rattle.charts.specs.declared.row.Stay.{Stay}
 use Rattle.charts.specs.declared.row.Stay.the-variants.{Finite, Endless}
@@ -155,24 +156,14 @@ module _ (c : Chart) (s : ℕ) (e : RowEntry) (st : Stands c s e) where
   pub few-offers-in : e .offers ≤ 62
   few-offers-in = omega (arith, st .count, few-offers xs (chart-limits c) s (st .inside))
 
-  inside-true : ltb s (total xs) ≡ true
-  inside-true = lt-ltb s (total xs) (st .inside)
-
   pub counts-moves : Ok (e .offers + 1) ≡ move-count (meaning-of c) s
-  unfolding move-count
-  counts-moves = ap (λ j. Ok j) (sym list-length) ∙ sym (cond-true (ltb s (total xs)) (Ok (length list)) (Err out-of-range) inside-true)
+  counts-moves = ap (λ j. Ok j) (sym list-length) ∙ sym (counted (meaning-of c) s (st .inside))
 
   nth : (k : ℕ) → k < e .offers + 1 → Ok (getD list k no-move) ≡ nth-move (meaning-of c) s k
-  unfolding nth-move
-  nth k h =
-      sym (cond-true (ltb s (total xs) && ltb k (length list)) (Ok (getD list k no-move)) (Err out-of-range)
-      (and-from (ltb s (total xs)) (ltb k (length list)) inside-true (lt-ltb k (length list) (omega (arith, list-length)))))
+  nth k h = sym (found (meaning-of c) s k (st .inside) (omega (arith, list-length)))
 
   pub nth-past : (k : ℕ) → e .offers < k → Err out-of-range ≡ nth-move (meaning-of c) s k
-  unfolding nth-move
-  nth-past k h =
-      sym (cond-false (ltb s (total xs) && ltb k (length list)) (Ok (getD list k no-move)) (Err out-of-range)
-      (and-right (ltb s (total xs)) (ltb k (length list)) (le-ltb k (length list) (omega (arith, list-length)))))
+  nth-past k h = sym (past-moves (meaning-of c) s k (omega (arith, list-length)))
 
   pub nth-offer : (k : ℕ) (m : Move ℕ) → k < e .offers → m ≡ offer-move xs (getD (row-at xs (row-of xs s) .offers) k (record { label = 0; row = 0 })) → Ok m ≡ nth-move (meaning-of c) s k
   nth-offer k m h q =
@@ -187,8 +178,7 @@ module _ (c : Chart) (s : ℕ) (e : RowEntry) (st : Stands c s e) where
       ap (λ v. Ok v) (q ∙ sym (getD-at (map (offer-move xs) (row-at xs (row-of xs s) .offers)) Closing [] no-move k l)) ∙ nth k (omega arith)
 
   tick-is : Ok (cond (eqb (Closing .label) 128) (Some (Closing .target)) None) ≡ tick-target (meaning-of c) s
-  unfolding tick-target
-  tick-is = ap (λ v. Ok v) (sym (state-tick xs (chart-limits c) s (st .inside))) ∙ sym (cond-true (ltb s (total xs)) (Ok (tick-of list)) (Err out-of-range) inside-true)
+  tick-is = ap (λ v. Ok v) (sym (state-tick xs (chart-limits c) s (st .inside))) ∙ sym (ticked (meaning-of c) s (st .inside))
 
   pub ticks : (m : Move ℕ) → m ≡ Closing → m .label ≡ 128 → Ok (Some (m .target)) ≡ tick-target (meaning-of c) s
   ticks m q h =
@@ -197,18 +187,3 @@ module _ (c : Chart) (s : ℕ) (e : RowEntry) (st : Stands c s e) where
   pub no-tick : (m : Move ℕ) → m ≡ Closing → (m .label ≡ 128 → ⊥) → Ok None ≡ tick-target (meaning-of c) s
   no-tick m q h =
       ap (λ v. Ok v) (sym (cond-false (eqb (m .label) 128) (Some (m .target)) None (ne-eqb (m .label) 128 h)) ∙ ap (λ (v : Move ℕ). cond (eqb (v .label) 128) (Some (v .target)) None) q) ∙ tick-is
-
--- a state that is not there
-module _ (c : Chart) (s : ℕ) (past : total (rows-of c) ≤ s) where
-  pub no-moves : Err out-of-range ≡ move-count (meaning-of c) s
-  unfolding move-count
-  no-moves = sym (cond-false (ltb s (total (rows-of c))) _ (Err out-of-range) (le-ltb s (total (rows-of c)) past))
-
-  pub no-move-at : (k : ℕ) → Err out-of-range ≡ nth-move (meaning-of c) s k
-  unfolding nth-move
-  no-move-at k =
-      sym (cond-false (ltb s (total (rows-of c)) && ltb k (length (meaning-of c .moves s))) _ (Err out-of-range) (and-left (ltb s (total (rows-of c))) (ltb k (length (meaning-of c .moves s))) (le-ltb s (total (rows-of c)) past)))
-
-  pub no-tick-at : Err out-of-range ≡ tick-target (meaning-of c) s
-  unfolding tick-target
-  no-tick-at = sym (cond-false (ltb s (total (rows-of c))) _ (Err out-of-range) (le-ltb s (total (rows-of c)) past))

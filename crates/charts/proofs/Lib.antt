@@ -3,7 +3,7 @@ pub mod Results
 pub mod Exact
 pub mod Accepted
 pub mod RowFaults
-pub mod Seconds
+pub mod Dwells
 pub mod RowsFaults
 pub mod Checking
 pub mod Filling

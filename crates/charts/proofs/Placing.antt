@@ -28,6 +28,7 @@ refused ws f e =
     (a, λ c. never-ok f (c .0) (sym a ∙ encodes-accepted ws (c .0) (c .1)))
 
 pub record Filled (ws : List ℕ) (t : Tables) (n : ℕ) : Type 0 where
+  pub read : check-chart ws ≡ Ok (table-rows t)
   pub encodes : Encodes (table-rows t) ws
   pub states : n ≡ total (table-rows t)
   pub file : Chart-file ws
@@ -38,6 +39,7 @@ filled ws t n e h =
     let rows : table-rows t ≡ a .0 = held-rows t _ h ∙ ap (good []) (a .1 .0) in
     let enc = accepted-encodes ws (a .0) (a .1 .0) in
     record {
+      read = a .1 .0 ∙ ap (λ v. Ok v) (sym rows);
       encodes = subst (λ (v : List Row). Encodes v ws) (sym rows) enc;
       states = sym (a .1 .1) ∙ ap total (sym rows);
       file = (a .0, enc);

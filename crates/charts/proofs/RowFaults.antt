@@ -22,7 +22,7 @@ use Rattle.charts.specs.Encoding.{row-encoded}
 use Rattle.charts.proofs.Offers.{Tested}
 use Rattle.charts.proofs.Results.{mapped-ok, mapped-err}
 use Rattle.charts.proofs.Exact.{offers-exact, row-of-parts, Row-read, row-exactly, row-length}
-use Rattle.charts.proofs.Seconds.{seconds-most}
+use Rattle.charts.proofs.Dwells.{seconds-most}
 
 module _ (n p : ℕ) (ws : List ℕ) where
   abbrev with-offers : Stay → ℕ → Result Row WordFault

@@ -6,6 +6,7 @@ use Prim.Native.Nat.{ℕ, _≤_}
 use lib.ListN.{length}
 use Rattle.words.specs.declared.word.RowHead.the-variants.{Dwell, Endless as EndlessHead}
 use Rattle.words.specs.Encoded.{count-word, arrow-word, row-word}
+use Rattle.words.specs.Bytes.{longest}
 use Rattle.charts.specs.declared.row.Stay.{Stay}
 use Rattle.charts.specs.declared.row.Stay.the-variants.{Finite, Endless}
 use Rattle.charts.specs.declared.row.Offer.{Offer}
@@ -35,7 +36,7 @@ encoded xs = count-word 12 (length xs) ∷ rows-encoded xs
 pub record Encodes (xs : List Row) (ws : List ℕ) : Type 0 where
   pub words : encoded xs ≡ ws
   pub limits : within xs ≡ true
-  pub short : length ws ≤ 16384
+  pub short : length ws ≤ longest
 
 abbrev pub Chart-file : List ℕ → Type 0
 Chart-file ws = (xs : List Row) × Encodes xs ws

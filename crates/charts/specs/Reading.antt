@@ -15,6 +15,7 @@ use Rattle.words.specs.declared.fault.WordFault.the-variants.{Length, Form, Ran
 use Rattle.words.specs.declared.word.RowHead.{RowHead}
 use Rattle.words.specs.declared.word.RowHead.the-variants.{Dwell, Endless as EndlessHead}
 use Rattle.words.specs.Words.{rows-in, row-in, arrow-in, offers-in}
+use Rattle.words.specs.Bytes.{longest}
 use Rattle.charts.specs.declared.row.Stay.{Stay}
 use Rattle.charts.specs.declared.row.Stay.the-variants.{Finite, Endless}
 use Rattle.charts.specs.declared.row.Offer.{Offer}
@@ -91,7 +92,7 @@ read-whole (w ∷ ws) =
 
 -- a file is at most 16,384 words long, which is tested first
 unfoldable pub read-chart : List ℕ → Result (List Row) WordFault
-read-chart ws = cond (ltb 16384 (length ws)) (Err (Length 16384)) (read-whole ws)
+read-chart ws = cond (ltb longest (length ws)) (Err (Length longest)) (read-whole ws)
 
 -- the place of the first row, from p on, with which the states, s before it, are over 4,096
 unfoldable pub overflow : ℕ → ℕ → List Row → Option ℕ

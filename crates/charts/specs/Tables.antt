@@ -6,6 +6,7 @@ use lib.ListN.{length, take, drop, replicate}
 use Rattle.std.specs.Of.Vec.{vec-items, vec-cap}
 use Rattle.std.specs.declared.result.Result.{Result}
 use Rattle.std.specs.declared.result.Result.the-variants.{Ok, Err}
+use Rattle.words.specs.Bytes.{longest}
 use Rattle.charts.specs.declared.row.Offer.{Offer}
 use Rattle.charts.specs.declared.tables.RowEntry.{RowEntry}
 use Rattle.charts.specs.declared.tables.Tables.{Tables}
@@ -75,5 +76,5 @@ pub record Held (t : Tables) (xs : List Row) : Type 0 where
 -- room for every chart
 pub record Room (t : Tables) : Type 0 where
   pub rows : 256 ≤ vec-cap (t .rows)
-  pub offers : 16384 ≤ vec-cap (t .offers)
+  pub offers : longest ≤ vec-cap (t .offers)
   pub owners : 4096 ≤ vec-cap (t .owners)

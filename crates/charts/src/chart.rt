@@ -2,6 +2,7 @@ ghost use mathlib.Core.Path.{_≡_};
 ghost use mathlib.Core.Bool.{true};
 ghost use Prim.Native.Nat.{_≤_};
 ghost use Rattle.std.specs.Of.Vec.{vec-items, vec-cap};
+ghost use Rattle.words.specs.Bytes.{longest};
 ghost use Rattle.charts.specs.Rows.{within};
 ghost use Rattle.charts.specs.Tables.{table-rows, entry-firsts, entry-counts, firsts, offer-counts, owners};
 use crate::tables::Tables;
@@ -18,6 +19,6 @@ pub struct Chart {
     ghost owned: { vec-items (tables .owners) ≡ owners 0 (table-rows tables) },
     ghost limits: { within (table-rows tables) ≡ true },
     ghost row_room: { 256 ≤ vec-cap (tables .rows) },
-    ghost offer_room: { 16384 ≤ vec-cap (tables .offers) },
+    ghost offer_room: { longest ≤ vec-cap (tables .offers) },
     ghost owner_room: { 4096 ≤ vec-cap (tables .owners) },
 }

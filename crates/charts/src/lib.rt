@@ -2,8 +2,15 @@
 
 pub mod chart;
 pub mod fault;
-pub mod row;
 mod opening;
 mod reading;
+pub mod row;
 pub mod source;
 mod tables;
+
+pub use chart::Chart;
+pub use fault::ChartFault;
+pub use reading::check;
+pub use row::Offer;
+pub use row::Stay;
+pub use row::seconds;

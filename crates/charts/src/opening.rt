@@ -44,7 +44,8 @@ impl Chart {
     // states it has; or refuses them, and leaves the place as it was.
     pub fn fill(&mut self, words: &[u32]) -> Result<u32, ChartFault>
         ensures accepted { λ r. ⌜ (isOk r ≡ true) ↔ Chart-file (now (words .entry)) ⌝ }
-        ensures place { λ r. ⌜ Cases r (λ n. Encodes (rows-of (now (self .exit))) (now (words .entry)) × (n ≡ total (rows-of (now (self .exit)))) × (now (self .exit) .opened ≡ true)) (λ f. (check-chart (now (words .entry)) ≡ Err f) × (now (self .exit) ≡ now (self .entry))) ⌝ }
+        ensures encodes { λ r. ⌜ made r (λ _. Encodes (rows-of (now (self .exit))) (now (words .entry))) ⌝ }
+        ensures place { λ r. ⌜ Cases r (λ n. (check-chart (now (words .entry)) ≡ Ok (rows-of (now (self .exit)))) × (n ≡ total (rows-of (now (self .exit)))) × (now (self .exit) .opened ≡ true)) (λ f. (check-chart (now (words .entry)) ≡ Err f) × (now (self .exit) ≡ now (self .entry))) ⌝ }
     {
         let states = check(words)?;
         self.tables.refill(words);

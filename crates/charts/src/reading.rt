@@ -2,6 +2,7 @@ ghost use mathlib.Core.Path.{_≡_};
 ghost use Prim.Native.Nat.{ℕ, _+_, _*_, _<_, _≤_};
 ghost use lib.ListN.{length};
 ghost use Rattle.std.specs.Vec.{made};
+ghost use Rattle.words.specs.Bytes.{longest};
 ghost use Rattle.charts.specs.Rows.{last-second, total};
 ghost use Rattle.charts.specs.Sums.{row-read, read-words, Row-bounds, sums-with, sums-over};
 ghost use Rattle.charts.specs.Reading.{mapped, timeout-in, offer-in, read-timeout, read-stay, read-count, read-offers, read-row, read-rows, check-chart};
@@ -10,15 +11,13 @@ use crate::fault::ChartOfWord;
 use crate::row::Offer;
 use crate::row::Stay;
 use lts::is_visible;
+use words::LONGEST;
 use words::RowHead;
 use words::WordFault;
 use words::arrow;
 
 // The most states that a source may have.
 pub(crate) const MOST_STATES: u32 = 4096;
-
-// The most words that a file may have.
-pub(crate) const LONGEST: usize = 16_384;
 
 // A row by its plain numbers: how long it is stayed in, and how many offers it
 // has.
@@ -156,7 +155,7 @@ fn read_offers(words: &[u32], place: usize, count: u32, rows: u32) -> Result<(),
 
 // The row at the front of `words`, whose first word stands at `place`.
 pub(crate) fn read_row(words: &[u32], place: usize, rows: u32) -> Result<RowRead, WordFault>
-    requires { ⌜ place + length (now words) ≤ 16384 ⌝ }
+    requires { ⌜ place + length (now words) ≤ longest ⌝ }
     ensures read { λ r. ⌜ r ≡ mapped row-read (read-row rows place (now (words .entry))) ⌝ }
     ensures bounds { λ r. ⌜ made r (λ x. Row-bounds (now (words .entry)) x) ⌝ }
 {
@@ -172,7 +171,7 @@ pub(crate) fn read_row(words: &[u32], place: usize, rows: u32) -> Result<RowRead
 
 // The sums over `left` rows more, the first of which begins `words`.
 fn read_rows(words: &[u32], left: u32, rows: u32, sums: Sums) -> Result<Sums, WordFault>
-    requires { ⌜ sums .place + length (now words) ≤ 16384 ⌝ ∗ ⌜ sums .states + left * 4096 ≤ 2000000 ⌝ }
+    requires { ⌜ sums .place + length (now words) ≤ longest ⌝ ∗ ⌜ sums .states + left * 4096 ≤ 2000000 ⌝ }
     ensures { λ r. ⌜ r ≡ mapped (sums-over sums) (read-rows rows (sums .place) left (now (words .entry))) ⌝ }
 {
     if left == 0 {

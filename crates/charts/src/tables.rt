@@ -6,10 +6,10 @@ ghost use lib.ListN.{length, replicate};
 ghost use Rattle.std.specs.Of.Vec.{vec-items, vec-len, vec-cap};
 ghost use Rattle.std.specs.Results.{isOk};
 ghost use Rattle.std.specs.Vec.{made};
+ghost use Rattle.words.specs.Bytes.{longest};
 ghost use Rattle.charts.specs.Rows.{stay-states, total};
 ghost use Rattle.charts.specs.Reading.{read-offers, read-rows, check-chart};
 ghost use Rattle.charts.specs.Tables.{good, entry-of, Grows, Held, Room};
-use crate::reading::LONGEST;
 use crate::reading::MOST_STATES;
 use crate::reading::RowRead;
 use crate::reading::read_offer;
@@ -18,6 +18,7 @@ use crate::row::Offer;
 use crate::row::Stay;
 use std::alloc::AllocError;
 use std::alloc::Global;
+use words::LONGEST;
 
 // The most rows that a chart may have.
 const MOST_ROWS: usize = 256;
@@ -98,9 +99,9 @@ impl Tables {
     // Adds the rows that `words` begins with, which were read before.
     fn add_rows(&mut self, words: &[u32], place: usize, left: u32, rows: u32)
         requires known { ⌜ isOk (read-rows rows place left (now words)) ≡ true ⌝ }
-        requires inside { ⌜ place + length (now words) ≤ 16384 ⌝ }
+        requires inside { ⌜ place + length (now words) ≤ longest ⌝ }
         requires room { ⌜ Room (now self) ⌝ }
-        requires few { ⌜ vec-len (now self .rows) + left ≤ 256 ⌝ ∗ ⌜ vec-len (now self .offers) + length (now words) ≤ 16384 ⌝ }
+        requires few { ⌜ vec-len (now self .rows) + left ≤ 256 ⌝ ∗ ⌜ vec-len (now self .offers) + length (now words) ≤ longest ⌝ }
         requires states { ⌜ vec-len (now self .owners) + total (good [] (read-rows rows place left (now words))) ≤ 4096 ⌝ }
         ensures grows { λ _. ⌜ Grows (now (self .entry)) (now (self .exit)) (good [] (read-rows rows place left (now (words .entry)))) ⌝ }
         ensures room { λ _. ⌜ Room (now (self .exit)) ⌝ }

@@ -1,19 +1,19 @@
 -- Decoding is exact, for each decoder: what it finds is what the word was made of, and it finds that in the word.
-use mathlib.Core.Path.{_≡_, refl, sym, ap, _∙_}
-use mathlib.Core.Bool.{Bool, true, false, cond, not, _&&_}
+use mathlib.Core.Path.{_≡_, refl}
+use mathlib.Core.Bool.{Bool, true, false, cond}
 use mathlib.Core.Logic.{inl, inr}
-use Prim.Native.Nat.{ℕ, _+_, _*_, _/_, _%_, _^_, _<_, _≤_}
+use Prim.Native.Nat.{ℕ, _/_, _%_, _^_, _<_, _≤_}
 use native.Mathlib.Omega.{arith}
-use lib.Dec.{eqb, leb, ltb}
+use lib.Dec.{eqb}
 use Rattle.std.proofs.shelf.Results.{made-at-ok}
 use Rattle.std.proofs.shelf.Ways.{eqb-tells, tells}
 use Rattle.std.specs.Vec.{made}
 use Rattle.std.specs.declared.result.Result.{Result}
-use Rattle.std.specs.declared.result.Result.the-variants.{Ok, Err}
-use Rattle.words.specs.declared.fault.WordFault.{WordFault}
-use Rattle.words.specs.declared.fault.WordFault.the-variants.{Form, Range}
+use Rattle.std.specs.declared.result.Result.the-variants.{Ok}
 use Rattle.lts.specs.declared.source.Move.{Move}
 use Rattle.lts.specs.Labels.{label}
+use Rattle.words.specs.declared.fault.WordFault.{WordFault}
+use Rattle.words.specs.declared.fault.WordFault.the-variants.{Form}
 use Rattle.words.specs.declared.term.Delay.{Delay}
 use Rattle.words.specs.declared.term.Delay.the-variants.{Constant, Plus, Less}
 use Rattle.words.specs.declared.term.Operator.{Operator}

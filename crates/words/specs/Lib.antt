@@ -3,3 +3,4 @@ pub mod Words
 pub mod Operators
 pub mod Decoded
 pub mod Encoded
+pub mod Bytes

@@ -1,9 +1,9 @@
 -- What a word of a term says, or why it is refused.
-use mathlib.Core.Bool.{cond, not, _&&_, _||_}
-use Prim.Native.Nat.{ℕ, _+_, _*_, _/_, _%_, _^_}
-use lib.Dec.{eqb, leb, ltb}
+use mathlib.Core.Bool.{cond, not, _&&_}
+use Prim.Native.Nat.{ℕ, _/_, _%_, _^_}
+use lib.Dec.{eqb, ltb}
 use Rattle.std.specs.declared.result.Result.{Result}
-use Rattle.std.specs.declared.result.Result.the-variants.{Ok, Err}
+use Rattle.std.specs.declared.result.Result.the-variants.{Ok}
 use Rattle.words.specs.declared.fault.WordFault.{WordFault}
 use Rattle.words.specs.declared.fault.WordFault.the-variants.{Form, Range}
 use Rattle.words.specs.declared.term.Delay.the-variants.{Constant, Plus, Less}

@@ -104,3 +104,90 @@ pub fn operator(word: u32, place: usize) -> Result<Operator, WordFault>
         _ => Err(WordFault::Form(place)),
     }
 }
+
+#[cfg(test)]
+mod tests {
+    use super::*;
+    use crate::fault::WordFaultDebug;
+    use crate::fault::WordFaultPartialEq;
+    use crate::term::OperatorDebug;
+    use crate::term::OperatorPartialEq;
+    use std::test::*;
+
+    // The code of the fault in a word, or 0. The words below lie at the edges of
+    // the ranges.
+    fn code(word: u32) -> u32 {
+        match operator(word, 5) {
+            Ok(_) => 0,
+            Err(fault) => fault.code(),
+        }
+    }
+
+    #[test]
+    fn in_range() -> Result<(), Fail> {
+        for word in &[
+            0x0000_0000,
+            0x1000_0000,
+            0x1000_007F,
+            0x2000_0FFF,
+            0x2780_0000,
+            0x2B80_0001,
+            0x3000_0000,
+            0x4000_0000,
+            0x5000_0001,
+            0x5000_003F,
+            0x6000_0FFF,
+            0x7FFF_FFFF,
+        ] {
+            check_eq(code(*word), 0)?;
+        }
+        Ok(())
+    }
+
+    #[test]
+    fn ill_formed() -> Result<(), Fail> {
+        for word in &[
+            0x0000_0001,
+            0x1000_0100,
+            0x2080_1000,
+            0x3000_0001,
+            0x4000_0001,
+            0x5000_0040,
+            0x6000_1041,
+            0x8000_0000,
+        ] {
+            check_eq(code(*word), 2)?;
+        }
+        Ok(())
+    }
+
+    #[test]
+    fn out_of_range() -> Result<(), Fail> {
+        for word in &[
+            0x1000_0040,
+            0x1000_0080,
+            0x2000_1000,
+            0x2B80_0000,
+            0x2C00_0001,
+            0x5000_0000,
+            0x6000_003F,
+            0x6000_0FC0,
+        ] {
+            check_eq(code(*word), 3)?;
+        }
+        Ok(())
+    }
+
+    #[test]
+    fn fields() -> Result<(), Fail> {
+        let delay = Delay::Less {
+            between: 1,
+            seconds: 2,
+        };
+        check_eq(operator(0x2880_0002, 5), Ok(Operator::Delay(delay)))?;
+        check_eq(
+            operator(0x6000_0FC1, 5),
+            Ok(Operator::Relabel { from: 1, to: 63 }),
+        )
+    }
+}

@@ -100,7 +100,10 @@ pub fn arrow(word: u32, place: usize) -> Result<Move<u32>, WordFault>
     if !is_label(label) {
         return Err(WordFault::Range(place));
     }
-    Ok(Move { label, target: payload % 0x10_0000 })
+    Ok(Move {
+        label,
+        target: payload % 0x10_0000,
+    })
 }
 
 // The head of a chart's row.
@@ -147,4 +150,80 @@ pub fn decoding_is_exact() -> u8
     ensures { λ _. ⌜ Decoding-is-exact ⌝ }
 {
     0
+}
+
+#[cfg(test)]
+mod tests {
+    use super::*;
+    use crate::fault::WordFaultDebug;
+    use crate::fault::WordFaultPartialEq;
+    use std::test::*;
+
+    // The code of the fault in a word, or 0. The words below lie at the edges of
+    // the ranges.
+    fn code(word: u32) -> u32 {
+        match decode(word, 5) {
+            Ok(_) => 0,
+            Err(fault) => fault.code(),
+        }
+    }
+
+    #[test]
+    fn in_range() -> Result<(), Fail> {
+        for word in &[
+            0x7FFF_FFFF,
+            0x8000_0000,
+            0x8000_0100,
+            0x9000_0001,
+            0x9000_1000,
+            0xA000_0001,
+            0xA000_0040,
+            0xB00F_FFFF,
+            0xB800_0000,
+            0xC000_0001,
+            0xC000_0100,
+            0xD000_0000,
+            0xD000_9FFF,
+            0xE000_0000,
+            0xF000_0000,
+            0xF000_003E,
+        ] {
+            check_eq(code(*word), 0)?;
+        }
+        Ok(())
+    }
+
+    #[test]
+    fn out_of_range() -> Result<(), Fail> {
+        for word in &[
+            0x8000_0101,
+            0x9000_0000,
+            0x9000_1001,
+            0xA000_0000,
+            0xA000_0041,
+            0xB400_0000,
+            0xB810_0000,
+            0xC000_0000,
+            0xC000_0101,
+            0xD000_A000,
+            0xF000_003F,
+        ] {
+            check_eq(code(*word), 3)?;
+        }
+        Ok(())
+    }
+
+    #[test]
+    fn fields() -> Result<(), Fail> {
+        check_eq(states(0x8000_0001, 2), Err(WordFault::Form(2)))?;
+        check_eq(
+            arrow(0xB410_0007, 2),
+            Ok(Move {
+                label: 65,
+                target: 7,
+            }),
+        )?;
+        check_eq(row(0xE000_0001, 2), Err(WordFault::Form(2)))?;
+        check_eq(row(0xF000_0000, 2), Err(WordFault::Form(2)))
+    }
 }

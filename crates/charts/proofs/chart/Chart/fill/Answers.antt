@@ -12,7 +12,7 @@ pub returns-in-Break-states : need.returns-in-Break-states
 returns-in-Break-states c =
     let p = err-from-errBy (c .from-residual .result) (c .from-residual .ensures .1) in
     let q = refused (c .args .words .now) (c .in-Break-states .field-0 .0) (c .in-Break-states .ensures tt) in
-    rw (p .1, p .2) (record { accepted = ((λ h. absurd (false≢true h)), (λ f. absurd (q .1 f))); place = (q .0, refl) })
+    rw (p .1, p .2) (record { accepted = ((λ h. absurd (false≢true h)), (λ f. absurd (q .1 f))); encodes = tt; place = (q .0, refl) })
 
 pub ghost-self : need.ghost-self
 ghost-self c =
@@ -24,4 +24,4 @@ ghost-self c =
 pub returns : need.returns
 returns c =
     let f = filled (c .args .words .now) (c .refill .last .self) (c .in-Continue-states .states) (c .in-Continue-states .ensures tt) (c .refill .ensures .held) in
-    record { accepted = ((λ _. f .file), (λ _. refl)); place = (f .encodes, f .states, refl) }
+    record { accepted = ((λ _. f .file), (λ _. refl)); encodes = f .encodes; place = (f .read, f .states, refl) }

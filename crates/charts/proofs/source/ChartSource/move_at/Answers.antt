@@ -1,14 +1,16 @@
-use mathlib.Core.Path.{_≡_}
+use mathlib.Core.Path.{_≡_, sym}
 use Prim.Native.Nat.{ℕ}
 use native.Mathlib.Omega.{arith}
 use Rattle.std.proofs.shelf.Results.{err-from-errBy}
-use Rattle.charts.proofs.Answering.{few-offers-in, nth-offer, nth-past, nth-closing, no-move-at}
+use Rattle.lts.proofs.Asked.{no-state}
+use Rattle.charts.specs.Charts.{meaning-of}
+use Rattle.charts.proofs.Answering.{few-offers-in, nth-offer, nth-past, nth-closing}
 use Rattle.charts.proofs.source.ChartSource.move_at.Needs as need
 
 pub returns-in-Break-row : need.returns-in-Break-row
 returns-in-Break-row c =
     let p = err-from-errBy (c .from-residual .result) (c .from-residual .ensures .1) in
-    rw (p .1, p .2) (no-move-at (c .args .self .now) (c .args .s) (c .in-Break-row .ensures tt) (c .args .k))
+    rw (p .1, p .2) (sym (no-state (meaning-of (c .args .self .now)) (c .args .s) (c .args .k) (c .in-Break-row .ensures tt)))
 
 pub cast-offers : need.cast-offers
 cast-offers c = omega (arith, few-offers-in (c .args .self .now) (c .args .s) (c .in-Continue-row .row) (c .in-Continue-row .ensures tt))

@@ -1,11 +1,14 @@
+use mathlib.Core.Path.{sym}
 use Rattle.std.proofs.shelf.Results.{err-from-errBy}
-use Rattle.charts.proofs.Answering.{ticks, no-tick, no-tick-at}
+use Rattle.lts.proofs.Asked.{not-ticked}
+use Rattle.charts.specs.Charts.{meaning-of}
+use Rattle.charts.proofs.Answering.{ticks, no-tick}
 use Rattle.charts.proofs.source.ChartSource.tick.Needs as need
 
 pub returns-in-Break-row : need.returns-in-Break-row
 returns-in-Break-row c =
     let p = err-from-errBy (c .from-residual .result) (c .from-residual .ensures .1) in
-    rw (p .1, p .2) (no-tick-at (c .args .self .now) (c .args .s) (c .in-Break-row .ensures tt))
+    rw (p .1, p .2) (sym (not-ticked (meaning-of (c .args .self .now)) (c .args .s) (c .in-Break-row .ensures tt)))
 
 pub returns-then-last-eq-TICK : need.returns-then-last-eq-TICK
 returns-then-last-eq-TICK c =
