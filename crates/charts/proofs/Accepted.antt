@@ -45,16 +45,16 @@ whole-exactly (w ∷ ws) xs e =
     let r = rows-exactly n 1 n ws (b .0) (b .1 .0) in
     subst (λ (v : List Row). Whole (w ∷ ws) v) (c .1) (whole-from n w ws (b .0) (x .0) (x .1 .0) (x .1 .1) r (eqb-true (rows-words (b .0)) (length ws) (c .0)))
   where
-  whole-from : (n w : ℕ) (ws : List ℕ) (xs : List Row) → count-word 12 n ≡ w → 1 ≤ n → n ≤ 256 → Rows-read n n ws xs → rows-words xs ≡ length ws → Whole (w ∷ ws) xs
-  whole-from n w ws xs e l m r q =
-      let len : length ws ≤ length (rows-encoded xs) = omega (arith, rows-length xs) in
-      let all : ws ≡ rows-encoded xs = r .words ∙ ap (λ v. rows-encoded xs ++ v) (drop-all (length (rows-encoded xs)) ws len) ∙ append-nil (rows-encoded xs) in
-      record {
-        some = omega (arith, r .count);
-        few = omega (arith, r .count);
-        fits = subst (λ k. rows-fit k xs ≡ true) (sym (r .count)) (r .fits);
-        words = ap₂ _∷_ (ap (count-word 12) (r .count) ∙ e) (sym all);
-      }
+    whole-from : (n w : ℕ) (ws : List ℕ) (xs : List Row) → count-word 12 n ≡ w → 1 ≤ n → n ≤ 256 → Rows-read n n ws xs → rows-words xs ≡ length ws → Whole (w ∷ ws) xs
+    whole-from n w ws xs e l m r q =
+        let len : length ws ≤ length (rows-encoded xs) = omega (arith, rows-length xs) in
+        let all : ws ≡ rows-encoded xs = r .words ∙ ap (λ v. rows-encoded xs ++ v) (drop-all (length (rows-encoded xs)) ws len) ∙ append-nil (rows-encoded xs) in
+        record {
+          some = omega (arith, r .count);
+          few = omega (arith, r .count);
+          fits = subst (λ k. rows-fit k xs ≡ true) (sym (r .count)) (r .fits);
+          words = ap₂ _∷_ (ap (count-word 12) (r .count) ∙ e) (sym all);
+        }
 
 pub whole-back : (xs : List Row) → 1 ≤ length xs → length xs ≤ 256 → rows-fit (length xs) xs ≡ true → read-whole (encoded xs) ≡ Ok xs
 unfolding read-whole
@@ -76,8 +76,9 @@ unfolding overflow total
 fits-if-none s p [] h e = omega arith
 fits-if-none s p (x ∷ xs) h e =
     elim (cases-bool (ltb 4096 (s + size x))) [
-      inl q ↦ no-some p (sym (cond-true (ltb 4096 (s + size x)) (Some p) (overflow (s + size x) (p + row-words x) xs) q) ∙ e)
-    | inr q ↦ (let rest = fits-if-none (s + size x) (p + row-words x) xs (ltb-false 4096 (s + size x) q) (sym (cond-false (ltb 4096 (s + size x)) (Some p) (overflow (s + size x) (p + row-words x) xs) q) ∙ e) in omega arith) ]
+      | inl q ↦ no-some p (sym (cond-true (ltb 4096 (s + size x)) (Some p) (overflow (s + size x) (p + row-words x) xs) q) ∙ e)
+      | inr q ↦ (let rest = fits-if-none (s + size x) (p + row-words x) xs (ltb-false 4096 (s + size x) q) (sym (cond-false (ltb 4096 (s + size x)) (Some p) (overflow (s + size x) (p + row-words x) xs) q) ∙ e) in omega arith)
+    ]
 
 pub none-if-fits : (s p : ℕ) (xs : List Row) → s + total xs ≤ 4096 → overflow s p xs ≡ None
 unfolding overflow total
@@ -121,8 +122,9 @@ pub read-ok : (ws : List ℕ) (xs : List Row) → read-chart ws ≡ Ok xs → (l
 unfolding read-chart
 read-ok ws xs e =
     elim (cases-bool (ltb 16384 (length ws))) [
-      inl q ↦ never-ok (Length 16384) xs (sym (cond-true (ltb 16384 (length ws)) (Err (Length 16384)) (read-whole ws) q) ∙ e)
-    | inr q ↦ (ltb-false 16384 (length ws) q, sym (cond-false (ltb 16384 (length ws)) (Err (Length 16384)) (read-whole ws) q) ∙ e) ]
+      | inl q ↦ never-ok (Length 16384) xs (sym (cond-true (ltb 16384 (length ws)) (Err (Length 16384)) (read-whole ws) q) ∙ e)
+      | inr q ↦ (ltb-false 16384 (length ws) q, sym (cond-false (ltb 16384 (length ws)) (Err (Length 16384)) (read-whole ws) q) ∙ e)
+    ]
 
 -- what the reader takes is a chart's words
 pub accepted-encodes : (ws : List ℕ) (xs : List Row) → check-chart ws ≡ Ok xs → Encodes xs ws

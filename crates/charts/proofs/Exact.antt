@@ -50,7 +50,7 @@ abbrev Begins : List ℕ → List ℕ → Type 0
 Begins xs ws = ws ≡ xs ++ drop (length xs) ws
 
 pub offers-exact : (n p k : ℕ) (ws : List ℕ) (os : List Offer) → read-offers n p k ws ≡ Ok os
-  → (length os ≡ k) × (offers-fit n os ≡ true) × Begins (map offer-word os) ws
+    → (length os ≡ k) × (offers-fit n os ≡ true) × Begins (map offer-word os) ws
 unfolding read-offers offers-fit
 offers-exact n p zero ws os e = subst (λ (v : List Offer). (length v ≡ 0) × (offers-fit n v ≡ true) × Begins (map offer-word v) ws) (same-ok [] os e) (refl, refl, refl)
 offers-exact n p (suc k) [] os e = never-ok _ os e
@@ -76,7 +76,7 @@ offer-back n p o few h =
     ∙ cond-true (visible (o .label) && ltb (o .row) n) (Ok o) (Err (Range p)) h
 
 pub offers-back : (n p : ℕ) (os : List Offer) (ws : List ℕ) → n ≤ 256 → offers-fit n os ≡ true
-  → read-offers n p (length os) (map offer-word os ++ ws) ≡ Ok os
+    → read-offers n p (length os) (map offer-word os ++ ws) ≡ Ok os
 unfolding read-offers offers-fit
 offers-back n p [] ws few h = refl
 offers-back n p (o ∷ os) ws few h =
@@ -139,8 +139,8 @@ pub record Row-read (n : ℕ) (ws : List ℕ) (x : Row) : Type 0 where
   pub words : Begins (row-encoded x) ws
 
 row-joined : (n p k : ℕ) (ws : List ℕ) (st : Stay) (os : List Offer)
-  → Stays n ws st → read-count (p + stay-words st) (drop (stay-words st) ws) ≡ Ok k → read-offers n (p + stay-words st + 1) k (drop (stay-words st + 1) ws) ≡ Ok os
-  → Row-read n ws (record { stay = st; offers = os })
+    → Stays n ws st → read-count (p + stay-words st) (drop (stay-words st) ws) ≡ Ok k → read-offers n (p + stay-words st + 1) k (drop (stay-words st + 1) ws) ≡ Ok os
+    → Row-read n ws (record { stay = st; offers = os })
 unfolding Stays
 row-joined n p k ws st os s c o =
     let y = count-exact (p + stay-words st) (drop (stay-words st) ws) k c in

@@ -57,7 +57,7 @@ unfolding read-offers
 first-offer n p k w ws o e = ap (λ r. then r (λ o. mapped (λ os. o ∷ os) (read-offers n (p + 1) k ws))) (sym e)
 
 pub other-offers : (n p k : ℕ) (ws rest : List ℕ) → isOk (read-offers n p k ws) ≡ true → (k ≡ 0 → ⊥) → 0 < length ws → (o : Offer) → Ok o ≡ offer-in n p (getD ws 0 0) → rest ≡ drop 1 ws
-  → (isOk (read-offers n (p + 1) (k - 1) rest) ≡ true) × (good [] (read-offers n p k ws) ≡ o ∷ good [] (read-offers n (p + 1) (k - 1) rest))
+    → (isOk (read-offers n (p + 1) (k - 1) rest) ≡ true) × (good [] (read-offers n p k ws) ≡ o ∷ good [] (read-offers n (p + 1) (k - 1) rest))
 other-offers n p zero ws rest ok some h o e d = absurd (some refl)
 other-offers n p (suc k) [] rest ok some h o e d = absurd (omega arith)
 other-offers n p (suc k) (w ∷ ws) rest ok some h o e d =

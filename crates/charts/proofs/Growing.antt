@@ -35,7 +35,7 @@ first-row n p k ws x e = ap (λ r. then r (λ x. mapped (λ v. x ∷ v) (read-ro
 
 -- the offers of a row that was read
 row-offers : (n p : ℕ) (ws : List ℕ) (x : Row) → read-row n p ws ≡ Ok x
-  → read-offers n (p + stay-words (x .stay) + 1) (length (x .offers)) (drop (stay-words (x .stay) + 1) ws) ≡ Ok (x .offers)
+    → read-offers n (p + stay-words (x .stay) + 1) (length (x .offers)) (drop (stay-words (x .stay) + 1) ws) ≡ Ok (x .offers)
 unfolding read-row
 row-offers n p ws x e =
     let a = then-ok (read-stay n p ws) (λ st. then (read-count (p + stay-words st) (drop (stay-words st) ws)) (λ k. mapped (λ os. row-of-parts st os) (read-offers n (p + stay-words st + 1) k (drop (stay-words st + 1) ws)))) x e in
@@ -71,7 +71,7 @@ module _ (n p k : ℕ) (ws : List ℕ) where
       let same : read-offers n (p + at + 1) (length (x .offers)) (take (length ws - (at + 1)) (drop (at + 1) ws)) ≡ Ok (x .offers) = ap (read-offers n (p + at + 1) (length (x .offers))) (take-rest ws (at + 1)) ∙ row-offers n p ws x e in
       let less : suc k - 1 ≡ k = omega arith in
       let rest : read-rows n (p + row-words x) (suc k - 1) (take (length ws - row-words x) (drop (row-words x) ws)) ≡ read-rows n (p + row-words x) k (drop (row-words x) ws)
-          = ap (λ j. read-rows n (p + row-words x) j (take (length ws - row-words x) (drop (row-words x) ws))) less ∙ ap (read-rows n (p + row-words x) k) (take-rest ws (row-words x)) in
+      = ap (λ j. read-rows n (p + row-words x) j (take (length ws - row-words x) (drop (row-words x) ws))) less ∙ ap (read-rows n (p + row-words x) k) (take-rest ws (row-words x)) in
       let step = first-row n p k ws x e in
       let fine : isOk (read-rows n (p + row-words x) k (drop (row-words x) ws)) ≡ true = sym (mapped-is-ok (λ v. x ∷ v) (read-rows n (p + row-words x) k (drop (row-words x) ws))) ∙ ap isOk (sym step) ∙ ok in
       let all = ap (good []) step ∙ mapped-good (λ v. x ∷ v) (read-rows n (p + row-words x) k (drop (row-words x) ws)) [] [] fine ∙ ap (λ r. x ∷ good [] r) (sym rest) in
@@ -86,7 +86,7 @@ module _ (n p k : ℕ) (ws : List ℕ) where
       }
 
 pub first : (n p k : ℕ) (ws : List ℕ) (row : RowRead) (at used : ℕ) → isOk (read-rows n p k ws) ≡ true → (k ≡ 0 → ⊥) → Ok row ≡ mapped row-read (read-row n p ws)
-  → at ≡ stay-words (row .stay) → used ≡ read-words row → First n p k ws row at used
+    → at ≡ stay-words (row .stay) → used ≡ read-words row → First n p k ws row at used
 first n p zero ws row at used ok some e a u = absurd (some refl)
 first n p (suc k) ws row at used ok some e a u =
     let x = mapped-ok row-read (read-row n p ws) row (sym e) in
@@ -100,8 +100,8 @@ unfolding laid all-offers owners
 grown-none es os ns = record { entries = sym (append-nil es); offers = sym (append-nil os); owners = sym (append-nil ns) }
 
 pub grown-more : (es es₁ es₂ : List RowEntry) (os os₁ os₂ : List Offer) (ns ns₁ ns₂ : List ℕ) (x : Row) (xs : List Row)
-  → es₁ ≡ es ++ (entry-of (length ns) (length os) (row-read x) ∷ []) → os₁ ≡ os ++ x .offers → ns₁ ≡ ns ++ replicate (size x) (length es)
-  → Grown es₁ es₂ os₁ os₂ ns₁ ns₂ xs → Grown es es₂ os os₂ ns ns₂ (x ∷ xs)
+    → es₁ ≡ es ++ (entry-of (length ns) (length os) (row-read x) ∷ []) → os₁ ≡ os ++ x .offers → ns₁ ≡ ns ++ replicate (size x) (length es)
+    → Grown es₁ es₂ os₁ os₂ ns₁ ns₂ xs → Grown es es₂ os os₂ ns ns₂ (x ∷ xs)
 unfolding laid all-offers owners
 grown-more es es₁ es₂ os os₁ os₂ ns ns₁ ns₂ x xs e o s g =
     let states : length ns₁ ≡ length ns + size x = ap length s ∙ length-append ns (replicate (size x) (length es)) ∙ ap (λ j. length ns + j) (length-replicate (size x) (length es)) in

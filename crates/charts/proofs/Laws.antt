@@ -70,14 +70,16 @@ module _ (n : ℕ) (vs : List (Move ℕ)) (c : Move ℕ) (few : length vs ≤ 63
   by-place : (P : Move ℕ → Type 0) → ((k : ℕ) → k < length vs → P (getD vs k no-move)) → P c → (k : ℕ) → k < length all → P (getD all k no-move)
   by-place P a b k h =
       elim (cases-lt k (length vs)) [
-        inl l ↦ subst P (sym (before k l)) (a k l)
-      | inr l ↦ (let e : k ≡ length vs = omega (arith, len) in subst (λ j. P (getD all j no-move)) (sym e) (subst P (sym at-end) b)) ]
+        | inl l ↦ subst P (sym (before k l)) (a k l)
+        | inr l ↦ (let e : k ≡ length vs = omega (arith, len) in subst (λ j. P (getD all j no-move)) (sym e) (subst P (sym at-end) b))
+      ]
 
   last : (k : ℕ) → k < length all → (visible (label-at all k) ≡ true) ⊎ (suc k ≡ length all)
   last k h =
       elim (cases-lt k (length vs)) [
-        inl l ↦ inl (subst (λ (m : Move ℕ). visible (m .label) ≡ true) (sym (before k l)) (offers k l .0))
-      | inr l ↦ inr (omega (arith, len)) ]
+        | inl l ↦ inl (subst (λ (m : Move ℕ). visible (m .label) ≡ true) (sym (before k l)) (offers k l .0))
+        | inr l ↦ inr (omega (arith, len))
+      ]
 
   end-label : (k : ℕ) → suc k ≡ length all → label-at all k ≡ c .label
   end-label k e = let f : k ≡ length vs = omega (arith, len) in ap (label-at all) f ∙ ap (λ (m : Move ℕ). m .label) at-end
@@ -100,11 +102,11 @@ module _ (n : ℕ) (vs : List (Move ℕ)) (c : Move ℕ) (few : length vs ≤ 63
     inside = by-place (λ (m : Move ℕ). m .target < n) (λ k h. offers k h .1) (closes .1);
     tick-last = ticks-last;
     urgent = λ j k hj hk ej ek.
-      let a = taus-last j hj ej in
-      let b = ticks-last k hk ek in
-      let same : j ≡ k = omega arith in
-      let e : label-at all j ≡ label-at all k = ap (label-at all) same in
-      omega arith;
+        let a = taus-last j hj ej in
+        let b = ticks-last k hk ek in
+        let same : j ≡ k = omega arith in
+        let e : label-at all j ≡ label-at all k = ap (label-at all) same in
+        omega arith;
     waits = ends (closes .0);
   }
 
@@ -163,17 +165,19 @@ module _ (xs : List Row) (limits : Limits xs) (s : ℕ) (inside : s < total xs) 
   unfolding closing-move
   closing (Finite d t) e =
       elim (cases-bool (ltb (second-of xs s) (seconds d))) [
-        inl q ↦ subst (λ (m : Move ℕ). Closes (total xs) m) (sym (cond-true (ltb (second-of xs s) (seconds d)) _ _ q)) (inr refl, next (ltb-true (second-of xs s) (seconds d) q))
-      | inr q ↦ subst (λ (m : Move ℕ). Closes (total xs) m) (sym (cond-false (ltb (second-of xs s) (seconds d)) _ _ q)) (inl refl, first-inside t (timeout)) ]
+        | inl q ↦ subst (λ (m : Move ℕ). Closes (total xs) m) (sym (cond-true (ltb (second-of xs s) (seconds d)) _ _ q)) (inr refl, next (ltb-true (second-of xs s) (seconds d) q))
+        | inr q ↦ subst (λ (m : Move ℕ). Closes (total xs) m) (sym (cond-false (ltb (second-of xs s) (seconds d)) _ _ q)) (inl refl, first-inside t (timeout))
+      ]
     where
-    next : second-of xs s < seconds d → s + 1 < total xs
-    next h =
-        let a = row-ends xs (row-of xs s) (row-inside xs s inside) in
-        let b = row-begun xs s inside in
-        let size-is : size row ≡ seconds d + 1 = ap (λ (v : Stay). last-second v + 1) e in
-        omega arith
-    timeout : t < n
-    timeout = ltb-true t n (and-parts (leb d most-tenths) (ltb t n) (subst (λ (v : Stay). stay-fits n v ≡ true) e stay-in-range) .1)
+      next : second-of xs s < seconds d → s + 1 < total xs
+      next h =
+          let a = row-ends xs (row-of xs s) (row-inside xs s inside) in
+          let b = row-begun xs s inside in
+          let size-is : size row ≡ seconds d + 1 = ap (λ (v : Stay). last-second v + 1) e in
+          omega arith
+
+      timeout : t < n
+      timeout = ltb-true t n (and-parts (leb d most-tenths) (ltb t n) (subst (λ (v : Stay). stay-fits n v ≡ true) e stay-in-range) .1)
   closing Endless e = (inr refl, inside)
 
   pub state-lawful : Lawful (total xs) (chart-meaning xs .moves s)

@@ -36,7 +36,7 @@ twice o (Ok os) = refl
 twice o (Err f) = refl
 
 pub goes-on : (n p k : ℕ) (ws : List ℕ) → (k ≡ 0 → ⊥) → 0 < length ws → (o : Offer) → Ok o ≡ offer-in n p (getD ws 0 0)
-  → (rest : List ℕ) → rest ≡ drop 1 ws → (r : Result (Unit {0}) WordFault) → r ≡ Tested n (p + 1) (k - 1) rest → r ≡ Tested n p k ws
+    → (rest : List ℕ) → rest ≡ drop 1 ws → (r : Result (Unit {0}) WordFault) → r ≡ Tested n (p + 1) (k - 1) rest → r ≡ Tested n p k ws
 unfolding read-offers
 goes-on n p zero ws h l o e rest d r q = absurd (h refl)
 goes-on n p (suc k) [] h l o e rest d r q = absurd (omega arith)

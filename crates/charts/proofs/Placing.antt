@@ -50,8 +50,8 @@ none : {X Z : Type 0} (v : Vec X Z) → vec-items v ≡ [] → vec-len v ≡ 0
 none v e = v .ok .0 ∙ ap length e
 
 pub resting-held : (t u : Tables) → vec-items (t .rows) ≡ [] → vec-items (t .offers) ≡ [] → vec-items (t .owners) ≡ []
-  → vec-items (u .rows) ≡ vec-items (t .rows) ++ (entry-of (vec-len (t .owners)) (vec-len (t .offers)) (record { stay = Endless; offers = 0 }) ∷ [])
-  → vec-items (u .owners) ≡ vec-items (t .owners) ++ replicate 1 (vec-len (t .rows)) → u .offers ≡ t .offers → Held u resting
+    → vec-items (u .rows) ≡ vec-items (t .rows) ++ (entry-of (vec-len (t .owners)) (vec-len (t .offers)) (record { stay = Endless; offers = 0 }) ∷ [])
+    → vec-items (u .owners) ≡ vec-items (t .owners) ++ replicate 1 (vec-len (t .rows)) → u .offers ≡ t .offers → Held u resting
 unfolding laid all-offers owners
 resting-held t u r o n e s k =
     record {

@@ -47,7 +47,7 @@ whole-parts w ws xs e =
     (a .0, (a .1 .0, b .1 .0 ∙ ap (λ v. Ok v) (c .1)))
 
 parts : (ws : List ℕ) → isOk (check-chart ws) ≡ true → 0 < length ws
-  → (xs : List Row) × (n : ℕ) × ((check-chart ws ≡ Ok xs) × (rows-in 0 (getD ws 0 0) ≡ Ok n) × (read-rows n 1 n (drop 1 ws) ≡ Ok xs))
+    → (xs : List Row) × (n : ℕ) × ((check-chart ws ≡ Ok xs) × (rows-in 0 (getD ws 0 0) ≡ Ok n) × (read-rows n 1 n (drop 1 ws) ≡ Ok xs))
 unfolding check-chart
 parts [] ok h = absurd (omega arith)
 parts (w ∷ ws) ok h =
@@ -85,12 +85,12 @@ behind ws rest n ok h e d =
     }
 
 pub held-from-none : (t : Tables) (es : List RowEntry) (os : List Offer) (ns : List ℕ) (xs ys : List Row) → es ≡ [] → os ≡ [] → ns ≡ [] → xs ≡ ys
-  → Grown es (vec-items (t .rows)) os (vec-items (t .offers)) ns (vec-items (t .owners)) xs → Held t ys
+    → Grown es (vec-items (t .rows)) os (vec-items (t .offers)) ns (vec-items (t .owners)) xs → Held t ys
 held-from-none t es os ns xs ys a b c e g =
     let h : Grown [] (vec-items (t .rows)) [] (vec-items (t .offers)) [] (vec-items (t .owners)) xs
-        = subst (λ (v : List RowEntry). Grown v (vec-items (t .rows)) [] (vec-items (t .offers)) [] (vec-items (t .owners)) xs) a
-          (subst (λ (v : List Offer). Grown es (vec-items (t .rows)) v (vec-items (t .offers)) [] (vec-items (t .owners)) xs) b
-          (subst (λ (v : List ℕ). Grown es (vec-items (t .rows)) os (vec-items (t .offers)) v (vec-items (t .owners)) xs) c g)) in
+    = subst (λ (v : List RowEntry). Grown v (vec-items (t .rows)) [] (vec-items (t .offers)) [] (vec-items (t .owners)) xs) a
+    (subst (λ (v : List Offer). Grown es (vec-items (t .rows)) v (vec-items (t .offers)) [] (vec-items (t .owners)) xs) b
+    (subst (λ (v : List ℕ). Grown es (vec-items (t .rows)) os (vec-items (t .offers)) v (vec-items (t .owners)) xs) c g)) in
     subst (λ (v : List Row). Held t v) e (record { entries = h .entries; offers = h .offers; owners = h .owners })
 
 -- tables that hold rows hold just these
@@ -105,11 +105,11 @@ rows-again s f front (x ∷ xs) l =
     let shape : os ≡ (front ++ x .offers) ++ all-offers xs = sym (append-assoc front (x .offers) (all-offers xs)) in
     let len : length (front ++ x .offers) ≡ f + length (x .offers) = length-append front (x .offers) ∙ ap (λ j. j + length (x .offers)) l in
     let rest : map (entry-row os) (laid (s + size x) (f + length (x .offers)) xs) ≡ xs
-        = ap (λ v. map (entry-row v) (laid (s + size x) (f + length (x .offers)) xs)) shape ∙ rows-again (s + size x) (f + length (x .offers)) (front ++ x .offers) xs len in
+    = ap (λ v. map (entry-row v) (laid (s + size x) (f + length (x .offers)) xs)) shape ∙ rows-again (s + size x) (f + length (x .offers)) (front ++ x .offers) xs len in
     head-and-rest x _ xs here rest
   where
-  head-and-rest : (x : Row) (os : List Offer) {ys : List Row} (xs : List Row) → os ≡ x .offers → ys ≡ xs → record { stay = x .stay; offers = os } ∷ ys ≡ x ∷ xs
-  head-and-rest x os {ys} xs e q = ap (λ (v : List Offer). record { stay = x .stay; offers = v } ∷ ys) e ∙ ap (λ v. x ∷ v) q
+    head-and-rest : (x : Row) (os : List Offer) {ys : List Row} (xs : List Row) → os ≡ x .offers → ys ≡ xs → record { stay = x .stay; offers = os } ∷ ys ≡ x ∷ xs
+    head-and-rest x os {ys} xs e q = ap (λ (v : List Offer). record { stay = x .stay; offers = v } ∷ ys) e ∙ ap (λ v. x ∷ v) q
 
 pub held-rows : (t : Tables) (xs : List Row) → Held t xs → table-rows t ≡ xs
 held-rows t xs h =

@@ -43,7 +43,7 @@ module _ (n p : ℕ) (ws : List ℕ) where
   count-part st at e = ap (read-count (p + at)) (take-rest ws at) ∙ ap (λ j. read-count (p + j) (drop j ws)) e
 
   offers-part : (st : Stay) (at k : ℕ) → at ≡ stay-words st
-    → Tested n (p + at + 1) k (take (length ws - (at + 1)) (drop (at + 1) ws)) ≡ Tested n (p + stay-words st + 1) k (drop (stay-words st + 1) ws)
+      → Tested n (p + at + 1) k (take (length ws - (at + 1)) (drop (at + 1) ws)) ≡ Tested n (p + stay-words st + 1) k (drop (stay-words st + 1) ws)
   offers-part st at k e = ap (Tested n (p + at + 1) k) (take-rest ws (at + 1)) ∙ ap (λ j. Tested n (p + j + 1) k (drop (j + 1) ws)) e
 
   module _ (st : Stay) (at : ℕ) (good : Ok st ≡ read-stay n p ws) (behind : at ≡ stay-words st) where

@@ -46,7 +46,7 @@ good-row n k ws s x e =
     ∙ ap (λ r. mapped (sums-over s) (then r (λ x. mapped (λ v. x ∷ v) (read-rows n (s .place + row-words x) k (drop (row-words x) ws))))) (sym e)
 
 pub more-rows : (n k : ℕ) (ws : List ℕ) (s t : Sums) (x : RowRead) (used : ℕ) (r : Result Sums WordFault) → (k ≡ 0 → ⊥) → Ok x ≡ mapped row-read (read-row n (s .place) ws)
-  → t ≡ sums-with s x → used ≡ read-words x → r ≡ Summed n (k - 1) (take (length ws - used) (drop used ws)) t → r ≡ Summed n k ws s
+    → t ≡ sums-with s x → used ≡ read-words x → r ≡ Summed n (k - 1) (take (length ws - used) (drop used ws)) t → r ≡ Summed n k ws s
 more-rows n zero ws s t x used r h e m u q = absurd (h refl)
 more-rows n (suc k) ws s t x used r h e m u q =
     let a = mapped-ok row-read (read-row n (s .place) ws) x (sym e) in
@@ -75,9 +75,9 @@ over-step : (o : Option ℕ) (n q : ℕ) (rest : Option ℕ) → either (over-wi
 over-step (Some p) n q rest = refl
 over-step None n q rest = by (ltb 4096 n)
   where
-  by : (b : Bool) → either (cond b (Some q) None) rest ≡ cond b (Some q) rest
-  by true = refl
-  by false = refl
+    by : (b : Bool) → either (cond b (Some q) None) rest ≡ cond b (Some q) rest
+    by true = refl
+    by false = refl
 
 either-none : (o : Option ℕ) → o ≡ either o None
 either-none (Some p) = refl

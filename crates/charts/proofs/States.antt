@@ -34,18 +34,20 @@ unfolding owners total
 owners-at r [] s h = absurd (omega arith)
 owners-at r (x ∷ xs) s h =
     elim (cases-bool (ltb s (size x))) [
-      inl q ↦ (let l = ltb-true s (size x) q in let len = length-replicate (size x) r in
-        getD-append-left (replicate (size x) r) (owners (suc r) xs) 0 s (omega arith) ∙ getD-replicate (size x) s r 0 l ∙ sym (ap (λ j. r + j) (row-of-first x xs s l) ∙ add-zero r))
-    | inr q ↦ (let l = ltb-false s (size x) q in let rest = owners-at (suc r) xs (s - size x) (omega arith) in let e = row-of-later x xs s l in
-        getD-append-right (replicate (size x) r) (owners (suc r) xs) (size x) s 0 (length-replicate (size x) r) l ∙ (omega (arith, rest, e))) ]
+      | inl q ↦ (let l = ltb-true s (size x) q in let len = length-replicate (size x) r in
+          getD-append-left (replicate (size x) r) (owners (suc r) xs) 0 s (omega arith) ∙ getD-replicate (size x) s r 0 l ∙ sym (ap (λ j. r + j) (row-of-first x xs s l) ∙ add-zero r))
+      | inr q ↦ (let l = ltb-false s (size x) q in let rest = owners-at (suc r) xs (s - size x) (omega arith) in let e = row-of-later x xs s l in
+          getD-append-right (replicate (size x) r) (owners (suc r) xs) (size x) s 0 (length-replicate (size x) r) l ∙ (omega (arith, rest, e)))
+    ]
 
 pub row-inside : (xs : List Row) (s : ℕ) → s < total xs → row-of xs s < length xs
 unfolding total
 row-inside [] s h = absurd (omega arith)
 row-inside (x ∷ xs) s h =
     elim (cases-bool (ltb s (size x))) [
-      inl q ↦ (let e = row-of-first x xs s (ltb-true s (size x) q) in omega arith)
-    | inr q ↦ (let l = ltb-false s (size x) q in let e = row-of-later x xs s l in let rest = row-inside xs (s - size x) (omega arith) in omega arith) ]
+      | inl q ↦ (let e = row-of-first x xs s (ltb-true s (size x) q) in omega arith)
+      | inr q ↦ (let l = ltb-false s (size x) q in let e = row-of-later x xs s l in let rest = row-inside xs (s - size x) (omega arith) in omega arith)
+    ]
 
 -- the state stands in its row
 pub row-begun : (xs : List Row) (s : ℕ) → s < total xs → first xs (row-of xs s) ≤ s
@@ -53,19 +55,21 @@ unfolding first total
 row-begun [] s h = absurd (omega arith)
 row-begun (x ∷ xs) s h =
     elim (cases-bool (ltb s (size x))) [
-      inl q ↦ subst (λ j. first (x ∷ xs) j ≤ s) (sym (row-of-first x xs s (ltb-true s (size x) q))) (omega arith)
-    | inr q ↦ (let l = ltb-false s (size x) q in let rest = row-begun xs (s - size x) (omega arith) in
-        subst (λ j. first (x ∷ xs) j ≤ s) (sym (row-of-later x xs s l)) (omega arith)) ]
+      | inl q ↦ subst (λ j. first (x ∷ xs) j ≤ s) (sym (row-of-first x xs s (ltb-true s (size x) q))) (omega arith)
+      | inr q ↦ (let l = ltb-false s (size x) q in let rest = row-begun xs (s - size x) (omega arith) in
+          subst (λ j. first (x ∷ xs) j ≤ s) (sym (row-of-later x xs s l)) (omega arith))
+    ]
 
 pub row-lasts : (xs : List Row) (s : ℕ) → s < total xs → s < first xs (row-of xs s) + size (row-at xs (row-of xs s))
 unfolding first total
 row-lasts [] s h = absurd (omega arith)
 row-lasts (x ∷ xs) s h =
     elim (cases-bool (ltb s (size x))) [
-      inl q ↦ (let l = ltb-true s (size x) q in
-        subst (λ j. s < first (x ∷ xs) j + size (row-at (x ∷ xs) j)) (sym (row-of-first x xs s l)) (omega arith))
-    | inr q ↦ (let l = ltb-false s (size x) q in let rest = row-lasts xs (s - size x) (omega arith) in
-        subst (λ j. s < first (x ∷ xs) j + size (row-at (x ∷ xs) j)) (sym (row-of-later x xs s l)) (omega arith)) ]
+      | inl q ↦ (let l = ltb-true s (size x) q in
+          subst (λ j. s < first (x ∷ xs) j + size (row-at (x ∷ xs) j)) (sym (row-of-first x xs s l)) (omega arith))
+      | inr q ↦ (let l = ltb-false s (size x) q in let rest = row-lasts xs (s - size x) (omega arith) in
+          subst (λ j. s < first (x ∷ xs) j + size (row-at (x ∷ xs) j)) (sym (row-of-later x xs s l)) (omega arith))
+    ]
 
 pub firsts-length : (s : ℕ) (xs : List Row) → length (firsts s xs) ≡ length xs
 unfolding firsts

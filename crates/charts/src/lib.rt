@@ -10,7 +10,5 @@ mod tables;
 
 pub use chart::Chart;
 pub use fault::ChartFault;
-pub use reading::check;
 pub use row::Offer;
 pub use row::Stay;
-pub use row::seconds;

@@ -182,7 +182,7 @@ fn read_rows(words: &[u32], left: u32, rows: u32, sums: Sums) -> Result<Sums, Wo
 }
 
 // How many states the chart has whose words these are.
-pub fn check(words: &[u32]) -> Result<u32, ChartFault>
+pub(crate) fn check(words: &[u32]) -> Result<u32, ChartFault>
     ensures { λ r. ⌜ r ≡ mapped total (check-chart (now (words .entry))) ⌝ }
 {
     if words.len() > LONGEST {

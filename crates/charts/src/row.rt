@@ -18,7 +18,7 @@ pub struct Offer {
 }
 
 // The whole seconds of a dwell: the rest of a second is dropped.
-pub fn seconds(tenths: u32) -> u32
+pub(crate) fn seconds(tenths: u32) -> u32
     ensures value { λ r. ⌜ r ≡ whole-seconds tenths ⌝ }
     ensures bound { λ r. ⌜ r < 2 ^ 31 ⌝ }
 {
@@ -27,7 +27,7 @@ pub fn seconds(tenths: u32) -> u32
 
 impl Stay {
     // How many ticks lead from the row's first state to its last.
-    pub fn last_second(self) -> u32
+    pub(crate) fn last_second(self) -> u32
         ensures value { λ r. ⌜ r ≡ last-second self ⌝ }
         ensures bound { λ r. ⌜ r < 2 ^ 31 ⌝ }
     {
@@ -38,14 +38,14 @@ impl Stay {
     }
 
     // How many states the row has.
-    pub fn states(self) -> u32
+    pub(crate) fn states(self) -> u32
         ensures { λ r. ⌜ r ≡ stay-states self ⌝ }
     {
         self.last_second() + 1
     }
 
     // How many words say it: D and its timeout, or E.
-    pub fn words(self) -> usize
+    pub(crate) fn words(self) -> usize
         ensures { λ r. ⌜ r ≡ stay-words self ⌝ }
     {
         match self {

@@ -93,7 +93,8 @@ impl Tables {
             from,
             offers: row.offers,
         });
-        let _ = self.owners.resize(first + row.stay.states() as usize, number);
+        let _ = self.owners
+            .resize(first + row.stay.states() as usize, number);
     }
 
     // Adds the rows that `words` begins with, which were read before.
@@ -115,7 +116,13 @@ impl Tables {
         let at = row.stay.words();
         let used = row.words();
         self.add_row(row);
-        add_offers(&mut self.offers, &words[at + 1..], place + at + 1, row.offers, rows);
+        add_offers(
+            &mut self.offers,
+            &words[at + 1..],
+            place + at + 1,
+            row.offers,
+            rows,
+        );
         self.add_rows(&words[used..], place + used, left - 1, rows);
     }
 }

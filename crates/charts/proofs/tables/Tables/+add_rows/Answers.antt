@@ -39,9 +39,9 @@ add-rows-requires t c κs =
     (search needs, (f .rest-ok, (search needs, (search needs, (search needs, (search needs, omega (arith, c .pre .states, f .states, c .add-row .ensures .counts .1)))))))
 
 added : (s u v w : Tables) (row : RowRead) (x : Row) (xs all : List Row) → row ≡ record { stay = x .stay; offers = length (x .offers) } → all ≡ x ∷ xs
-  → vec-items (u .rows) ≡ vec-items (s .rows) ++ (entry-of (vec-len (s .owners)) (vec-len (s .offers)) row ∷ [])
-  → vec-items (u .owners) ≡ vec-items (s .owners) ++ replicate (stay-states (row .stay)) (vec-len (s .rows))
-  → (os : List Offer) → vec-items (v .offers) ≡ vec-items (u .offers) ++ os → u .offers ≡ s .offers → os ≡ x .offers → v .rows ≡ u .rows → v .owners ≡ u .owners → Grows v w xs → Grows s w all
+    → vec-items (u .rows) ≡ vec-items (s .rows) ++ (entry-of (vec-len (s .owners)) (vec-len (s .offers)) row ∷ [])
+    → vec-items (u .owners) ≡ vec-items (s .owners) ++ replicate (stay-states (row .stay)) (vec-len (s .rows))
+    → (os : List Offer) → vec-items (v .offers) ≡ vec-items (u .offers) ++ os → u .offers ≡ s .offers → os ≡ x .offers → v .rows ≡ u .rows → v .owners ≡ u .owners → Grows v w xs → Grows s w all
 added s u v w row x xs all r e a b os o k l p q g =
     subst (λ (z : List Row). Grows s w z) (sym e)
     (grown-more _ (vec-items (v .rows)) _ _ (vec-items (v .offers)) _ _ (vec-items (v .owners)) _ x xs
@@ -55,6 +55,6 @@ returns t c =
     let f = first (c .args .rows) (c .args .place) (c .args .left) (c .args .words .now) (c .in-Ok .row) (c .words-at .result) (c .words-used .result) (c .pre .known) (c .if-left-eq0 .left) (c .in-Ok .ensures tt .read) (c .words-at .ensures) (c .words-used .ensures) in
     record {
       grows = added (c .args .self .now) (c .add-row .last .self) (record { rows = c .add-row .last .self .rows; offers = c .add-offers .last .offers; owners = c .add-row .last .self .owners }) (c .add-rows .last .self) (c .in-Ok .row) (f .x) _ _ (f .read) (f .all)
-        (c .add-row .ensures .entries) (c .add-row .ensures .owners) _ (c .add-offers .ensures .items) (c .add-row .ensures .offers) (f .offers) refl refl (c .add-rows .ensures .grows);
+          (c .add-row .ensures .entries) (c .add-row .ensures .owners) _ (c .add-offers .ensures .items) (c .add-row .ensures .offers) (f .offers) refl refl (c .add-rows .ensures .grows);
       room = c .add-rows .ensures .room;
     }
