@@ -22,3 +22,12 @@ pub struct Chart {
     ghost offer_room: { longest ≤ vec-cap (tables .offers) },
     ghost owner_room: { 4096 ≤ vec-cap (tables .owners) },
 }
+
+impl Chart {
+    // Whether a file was accepted here.
+    pub fn is_opened(&self) -> bool
+        ensures { λ r. ⌜ r ≡ now (self .entry) .opened ⌝ }
+    {
+        self.opened
+    }
+}

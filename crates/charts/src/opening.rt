@@ -33,13 +33,6 @@ impl Chart {
         })
     }
 
-    // Whether a file was accepted here.
-    pub fn is_opened(&self) -> bool
-        ensures { λ r. ⌜ r ≡ now (self .entry) .opened ⌝ }
-    {
-        self.opened
-    }
-
     // Fills the place with the chart whose words these are, and tells how many
     // states it has; or refuses them, and leaves the place as it was.
     pub fn fill(&mut self, words: &[u32]) -> Result<u32, ChartFault>

@@ -33,3 +33,43 @@ pub fn matches(a: u32, b: u32) -> bool
 {
     is_visible(a) && is_visible(b) && (a + CO == b || b + CO == a)
 }
+
+#[cfg(test)]
+mod tests {
+    use super::*;
+    use std::test::*;
+
+    // Both edges of each range, and what lies between.
+    #[test]
+    fn kinds_of_labels() -> Result<(), Fail> {
+        for a in [0, 1, 63, 65, 127, 128] {
+            check(is_label(a)).note("a label")?;
+        }
+        for a in [64, 129, 255, u32::MAX] {
+            check(!is_label(a) && !is_visible(a)).note("no label")?;
+        }
+        for a in [1, 63, 65, 127] {
+            check(is_visible(a)).note("visible")?;
+        }
+        check(!is_visible(TAU) && !is_visible(TICK))
+    }
+
+    #[test]
+    fn matching_labels() -> Result<(), Fail> {
+        for (a, b) in [(1, 65), (65, 1), (63, 127), (127, 63)] {
+            check(matches(a, b)).note("a name and its co-name")?;
+        }
+        for (a, b) in [
+            (0, 64),
+            (64, 0),
+            (64, 128),
+            (128, 64),
+            (1, 66),
+            (1, 1),
+            (127, 191),
+        ] {
+            check(!matches(a, b)).note("no pair")?;
+        }
+        Ok(())
+    }
+}
