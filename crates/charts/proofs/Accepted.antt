@@ -22,7 +22,7 @@ use Rattle.charts.specs.declared.fault.ChartFault.{ChartFault}
 use Rattle.charts.specs.declared.fault.ChartFault.the-variants.{Word, TooManyStates}
 use Rattle.charts.specs.Rows.{Row, size, total, rows-fit, within}
 use Rattle.charts.specs.Reading.{then, read-rows, rows-words, row-words, read-whole, read-chart, overflow, sized, tested, check-chart}
-use Rattle.charts.specs.Encoding.{rows-encoded, encoded, Encodes, Chart-file}
+use Rattle.charts.specs.Encoding.{rows-encoded, encoded, Encodes, Read-one-way}
 use Rattle.charts.proofs.Results.{then-ok, passed, never-ok, same-ok}
 use Rattle.charts.proofs.Exact.{Rows-read, rows-exactly, rows-length, rows-back}
 
@@ -146,3 +146,6 @@ encodes-accepted ws xs h =
     let none : overflow 0 1 xs ≡ None = none-if-fits 0 1 xs (omega arith) in
     ap tested (cond-false (ltb 16384 (length ws)) (Err (Length 16384)) (read-whole ws) (le-ltb 16384 (length ws) (h .short)) ∙ a)
     ∙ ap (sized xs) none
+
+pub one-way : Read-one-way
+one-way xs ys ws h k = same-ok xs ys (sym (encodes-accepted ws xs h) ∙ encodes-accepted ws ys k)

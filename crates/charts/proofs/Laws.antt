@@ -21,7 +21,7 @@ use Rattle.charts.specs.declared.row.Stay.{Stay}
 use Rattle.charts.specs.declared.row.Stay.the-variants.{Finite, Endless}
 use Rattle.charts.specs.declared.row.Offer.{Offer}
 use Rattle.charts.specs.Rows.{Row, size, seconds, last-second, total, row-at, first, row-of, second-of, offer-fits, stay-fits, offers-fit, row-fits, within}
-use Rattle.charts.specs.Meaning.{offer-move, closing-move, moves-in, chart-meaning}
+use Rattle.charts.specs.Meaning.{arrival, offer-move, closing-move, chart-meaning}
 use Rattle.charts.proofs.Accepted.{Limits, limits-of}
 use Rattle.charts.proofs.States.{row-inside, row-begun, row-lasts, row-ends, row-fits-at, offer-fits-at}
 
@@ -152,6 +152,10 @@ module _ (xs : List Row) (limits : Limits xs) (s : ℕ) (inside : s < total xs) 
   first-inside : (r : ℕ) → r < n → first xs r < total xs
   first-inside r h = let e = row-ends xs r h in omega arith
 
+  -- the law of arrivals: an offer to a row of the chart arrives at a state
+  arrival-inside : (o : Offer) → o .row < n → arrival xs o < total xs
+  arrival-inside o h = first-inside (o .row) h
+
   pub offer-at : (k : ℕ) → k < length (row .offers) → getD (map (offer-move xs) (row .offers)) k no-move ≡ offer-move xs (getD (row .offers) k no-offer)
   offer-at k h = getD-map (offer-move xs) (row .offers) k no-offer no-move h
 
@@ -159,14 +163,14 @@ module _ (xs : List Row) (limits : Limits xs) (s : ℕ) (inside : s < total xs) 
   offers-lead-on k h =
       let l : k < length (row .offers) = omega (arith, length-map (row .offers) (offer-move xs)) in
       let f = offer-in-range k l in
-      subst (λ (m : Move ℕ). (visible (m .label) ≡ true) × (m .target < total xs)) (sym (offer-at k l)) (f .0, first-inside _ (f .1))
+      subst (λ (m : Move ℕ). (visible (m .label) ≡ true) × (m .target < total xs)) (sym (offer-at k l)) (f .0, arrival-inside (getD (row .offers) k no-offer) (f .1))
 
   closing : (st : Stay) → row .stay ≡ st → Closes (total xs) (closing-move xs st s (second-of xs s))
   unfolding closing-move
   closing (Finite d t) e =
       elim (cases-bool (ltb (second-of xs s) (seconds d))) [
         | inl q ↦ subst (λ (m : Move ℕ). Closes (total xs) m) (sym (cond-true (ltb (second-of xs s) (seconds d)) _ _ q)) (inr refl, next (ltb-true (second-of xs s) (seconds d) q))
-        | inr q ↦ subst (λ (m : Move ℕ). Closes (total xs) m) (sym (cond-false (ltb (second-of xs s) (seconds d)) _ _ q)) (inl refl, first-inside t (timeout))
+        | inr q ↦ subst (λ (m : Move ℕ). Closes (total xs) m) (sym (cond-false (ltb (second-of xs s) (seconds d)) _ _ q)) (inl refl, first-inside t timeout)
       ]
     where
       next : second-of xs s < seconds d → s + 1 < total xs

@@ -40,3 +40,7 @@ pub record Encodes (xs : List Row) (ws : List ℕ) : Type 0 where
 
 abbrev pub Chart-file : List ℕ → Type 0
 Chart-file ws = (xs : List Row) × Encodes xs ws
+
+-- no two charts have the same words
+abbrev pub Read-one-way : Type 0
+Read-one-way = (xs ys : List Row) (ws : List ℕ) → Encodes xs ws → Encodes ys ws → xs ≡ ys

@@ -14,10 +14,14 @@ use crate::tables::Tables;
 pub struct Chart {
     pub(crate) tables: Tables,
     pub(crate) opened: bool,
+    // The tables agree with the rows that they hold: the first state of each
+    // row, its number of offers, and the row of each state.
     ghost firsts: { entry-firsts tables ≡ firsts 0 (table-rows tables) },
     ghost counts: { entry-counts tables ≡ offer-counts (table-rows tables) },
     ghost owned: { vec-items (tables .owners) ≡ owners 0 (table-rows tables) },
+    // The rows are a chart within the limits.
     ghost limits: { within (table-rows tables) ≡ true },
+    // There is room for every other chart.
     ghost row_room: { 256 ≤ vec-cap (tables .rows) },
     ghost offer_room: { longest ≤ vec-cap (tables .offers) },
     ghost owner_room: { 4096 ≤ vec-cap (tables .owners) },

@@ -10,5 +10,6 @@ mod tables;
 
 pub use chart::Chart;
 pub use fault::ChartFault;
+pub use opening::words_are_read_one_way;
 pub use row::Offer;
 pub use row::Stay;

@@ -6,7 +6,7 @@ ghost use Rattle.std.specs.Vec.{made};
 ghost use Rattle.std.specs.declared.result.Result.the-variants.{Ok, Err};
 ghost use Rattle.charts.specs.Rows.{total};
 ghost use Rattle.charts.specs.Reading.{check-chart};
-ghost use Rattle.charts.specs.Encoding.{Encodes, Chart-file};
+ghost use Rattle.charts.specs.Encoding.{Encodes, Chart-file, Read-one-way};
 ghost use Rattle.charts.specs.Charts.{rows-of, resting};
 use crate::chart::Chart;
 use crate::fault::ChartFault;
@@ -45,4 +45,11 @@ impl Chart {
         self.opened = true;
         Ok(states)
     }
+}
+
+// Nothing to run: no two charts have the same words.
+pub fn words_are_read_one_way() -> u8
+    ensures { λ _. ⌜ Read-one-way ⌝ }
+{
+    0
 }

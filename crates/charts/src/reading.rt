@@ -56,7 +56,7 @@ const START: Sums = Sums {
 impl Sums {
     // The sums with one row more.
     fn with(self, row: RowRead) -> Sums
-        requires { ⌜ self .place ≤ 20000 ⌝ ∗ ⌜ self .states ≤ 2000000 ⌝ ∗ ⌜ row .offers ≤ 62 ⌝ ∗ ⌜ last-second (row .stay) ≤ 4095 ⌝ }
+        requires { ⌜ self .place ≤ longest ⌝ ∗ ⌜ self .states ≤ 255 * 4096 ⌝ ∗ ⌜ row .offers ≤ 62 ⌝ ∗ ⌜ last-second (row .stay) ≤ 4095 ⌝ }
         ensures { λ r. ⌜ r ≡ sums-with self row ⌝ }
     {
         let states = self.states + row.stay.states();
@@ -116,7 +116,7 @@ fn read_finite(words: &[u32], place: usize, tenths: u32, rows: u32) -> Result<St
 
 // The front of a row: D and its timeout, or E.
 fn read_stay(words: &[u32], place: usize, rows: u32) -> Result<Stay, WordFault>
-    requires { ⌜ place < 20000 ⌝ }
+    requires { ⌜ place ≤ longest ⌝ }
     ensures { λ r. ⌜ r ≡ read-stay rows place (now (words .entry)) ⌝ }
 {
     let [head, rest @ ..] = words else {
@@ -140,7 +140,7 @@ fn read_count(words: &[u32], place: usize) -> Result<u32, WordFault>
 
 // Tests the words of `count` offers.
 fn read_offers(words: &[u32], place: usize, count: u32, rows: u32) -> Result<(), WordFault>
-    requires { ⌜ place + count < 20000 ⌝ }
+    requires { ⌜ place + count ≤ longest + 62 ⌝ }
     ensures { λ r. ⌜ r ≡ mapped (λ _. tt) (read-offers rows place count (now (words .entry))) ⌝ }
 {
     if count == 0 {
@@ -171,7 +171,7 @@ pub(crate) fn read_row(words: &[u32], place: usize, rows: u32) -> Result<RowRead
 
 // The sums over `left` rows more, the first of which begins `words`.
 fn read_rows(words: &[u32], left: u32, rows: u32, sums: Sums) -> Result<Sums, WordFault>
-    requires { ⌜ sums .place + length (now words) ≤ longest ⌝ ∗ ⌜ sums .states + left * 4096 ≤ 2000000 ⌝ }
+    requires { ⌜ sums .place + length (now words) ≤ longest ⌝ ∗ ⌜ sums .states + left * 4096 ≤ 256 * 4096 ⌝ }
     ensures { λ r. ⌜ r ≡ mapped (sums-over sums) (read-rows rows (sums .place) left (now (words .entry))) ⌝ }
 {
     if left == 0 {

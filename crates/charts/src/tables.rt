@@ -130,7 +130,7 @@ impl Tables {
 // Adds the offers that `words` begins with, which were read before.
 fn add_offers(offers: &mut Vec<Offer>, words: &[u32], place: usize, count: usize, rows: u32)
     requires known { ⌜ isOk (read-offers rows place count (now words)) ≡ true ⌝ }
-    requires inside { ⌜ place + count < 20000 ⌝ }
+    requires inside { ⌜ place + count ≤ longest + 62 ⌝ }
     requires room { ⌜ vec-len (now offers) + count ≤ vec-cap (now offers) ⌝ }
     ensures items { λ _. ⌜ vec-items (now (offers .exit)) ≡ vec-items (now (offers .entry)) ++ good [] (read-offers rows place count (now (words .entry))) ⌝ }
     ensures number { λ _. ⌜ vec-len (now (offers .exit)) ≡ vec-len (now (offers .entry)) + count ⌝ }
