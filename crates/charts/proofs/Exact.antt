@@ -26,7 +26,7 @@ use Rattle.charts.specs.declared.row.Offer.{Offer}
 use Rattle.charts.specs.Rows.{Row, stay-words, offer-fits, stay-fits, offers-fit, row-fits, rows-fit}
 use Rattle.charts.specs.Reading.{then, mapped, timeout-in, offer-in, read-timeout, read-head, read-stay, read-count, read-offers, read-row, read-rows, row-words, rows-words}
 use Rattle.charts.specs.Encoding.{offer-word, stay-encoded, row-encoded, rows-encoded}
-use Rattle.charts.proofs.Results.{then-ok, mapped-ok, passed, never-ok, same-ok}
+use Rattle.charts.proofs.Results.{then-ok, then-by, mapped-ok, mapped-by, passed, never-ok, same-ok}
 
 tau-label : label 0 ≡ true
 unfolding label
@@ -157,14 +157,26 @@ row-joined n p k ws st os s c o =
       words = begins _ ws tail (s .1 ∙ one ∙ two ∙ three ∙ four ∙ five);
     }
 
-pub row-exactly : (n p : ℕ) (ws : List ℕ) (x : Row) → read-row n p ws ≡ Ok x → Row-read n ws x
+-- the three readings of which a row is made
+pub record Row-parts (n p : ℕ) (ws : List ℕ) (x : Row) : Type 0 where
+  pub count : ℕ
+  pub stay : read-stay n p ws ≡ Ok (x .stay)
+  pub counted : read-count (p + stay-words (x .stay)) (drop (stay-words (x .stay)) ws) ≡ Ok count
+  pub offers : read-offers n (p + stay-words (x .stay) + 1) count (drop (stay-words (x .stay) + 1) ws) ≡ Ok (x .offers)
+
+pub row-parts : (n p : ℕ) (ws : List ℕ) (x : Row) → read-row n p ws ≡ Ok x → Row-parts n p ws x
 unfolding read-row
-row-exactly n p ws x e =
-    let a = then-ok (read-stay n p ws) (λ st. then (read-count (p + stay-words st) (drop (stay-words st) ws)) (λ k. mapped (λ os. row-of-parts st os) (read-offers n (p + stay-words st + 1) k (drop (stay-words st + 1) ws)))) x e in
-    let st = a .0 in
-    let b = then-ok (read-count (p + stay-words st) (drop (stay-words st) ws)) (λ k. mapped (λ os. row-of-parts st os) (read-offers n (p + stay-words st + 1) k (drop (stay-words st + 1) ws))) x (a .1 .1) in
-    let d = mapped-ok (λ os. row-of-parts st os) (read-offers n (p + stay-words st + 1) (b .0) (drop (stay-words st + 1) ws)) x (b .1 .1) in
-    subst (λ (v : Row). Row-read n ws v) (d .1 .1) (row-joined n p (b .0) ws st (d .0) (stay-exact n p ws st (a .1 .0)) (b .1 .0) (d .1 .0))
+row-parts n p ws x e =
+    then-by (read-stay n p ws) _ x e (λ st a e.
+    then-by (read-count (p + stay-words st) (drop (stay-words st) ws)) _ x e (λ k b e.
+    mapped-by (λ os. row-of-parts st os) (read-offers n (p + stay-words st + 1) k (drop (stay-words st + 1) ws)) x e (λ os c e.
+    subst (λ (v : Row). Row-parts n p ws v) e (record { count = k; stay = a; counted = b; offers = c }))))
+
+pub row-exactly : (n p : ℕ) (ws : List ℕ) (x : Row) → read-row n p ws ≡ Ok x → Row-read n ws x
+row-exactly n p ws x e = by (row-parts n p ws x e)
+  where
+    by : Row-parts n p ws x → Row-read n ws x
+    by r = row-joined n p (r .count) ws (x .stay) (x .offers) (stay-exact n p ws (x .stay) (r .stay)) (r .counted) (r .offers)
 
 pub record Rows-read (n k : ℕ) (ws : List ℕ) (xs : List Row) : Type 0 where
   pub count : length xs ≡ k

@@ -17,10 +17,10 @@ use Rattle.charts.specs.declared.reading.RowRead.{RowRead}
 use Rattle.charts.specs.declared.tables.RowEntry.{RowEntry}
 use Rattle.charts.specs.Rows.{Row, size, stay-states, total, stay-words}
 use Rattle.charts.specs.Sums.{row-read, read-words}
-use Rattle.charts.specs.Reading.{then, mapped, read-stay, read-count, read-offers, read-row, read-rows, row-words}
+use Rattle.charts.specs.Reading.{then, mapped, read-offers, read-row, read-rows, row-words}
 use Rattle.charts.specs.Tables.{good, entry-of, laid, all-offers, owners, Grown}
-use Rattle.charts.proofs.Results.{then-ok, mapped-ok, mapped-err}
-use Rattle.charts.proofs.Exact.{row-of-parts, offers-exact}
+use Rattle.charts.proofs.Results.{mapped-ok, mapped-err}
+use Rattle.charts.proofs.Exact.{Row-parts, row-parts, offers-exact}
 use Rattle.charts.proofs.Filling.{mapped-is-ok, mapped-good, one-then-more}
 
 pub row-is-good : (n p k : ℕ) (ws : List ℕ) → isOk (read-rows n p k ws) ≡ true → (k ≡ 0 → ⊥) → (f : WordFault) → Err f ≡ mapped row-read (read-row n p ws) → ⊥
@@ -36,14 +36,12 @@ first-row n p k ws x e = ap (λ r. then r (λ x. mapped (λ v. x ∷ v) (read-ro
 -- the offers of a row that was read
 row-offers : (n p : ℕ) (ws : List ℕ) (x : Row) → read-row n p ws ≡ Ok x
     → read-offers n (p + stay-words (x .stay) + 1) (length (x .offers)) (drop (stay-words (x .stay) + 1) ws) ≡ Ok (x .offers)
-unfolding read-row
-row-offers n p ws x e =
-    let a = then-ok (read-stay n p ws) (λ st. then (read-count (p + stay-words st) (drop (stay-words st) ws)) (λ k. mapped (λ os. row-of-parts st os) (read-offers n (p + stay-words st + 1) k (drop (stay-words st + 1) ws)))) x e in
-    let b = then-ok (read-count (p + stay-words (a .0)) (drop (stay-words (a .0)) ws)) (λ k. mapped (λ os. row-of-parts (a .0) os) (read-offers n (p + stay-words (a .0) + 1) k (drop (stay-words (a .0) + 1) ws))) x (a .1 .1) in
-    let d = mapped-ok (λ os. row-of-parts (a .0) os) (read-offers n (p + stay-words (a .0) + 1) (b .0) (drop (stay-words (a .0) + 1) ws)) x (b .1 .1) in
-    let len = offers-exact n (p + stay-words (a .0) + 1) (b .0) (drop (stay-words (a .0) + 1) ws) (d .0) (d .1 .0) .0 in
-    subst (λ (v : Row). read-offers n (p + stay-words (v .stay) + 1) (length (v .offers)) (drop (stay-words (v .stay) + 1) ws) ≡ Ok (v .offers)) (d .1 .1)
-    (ap (λ j. read-offers n (p + stay-words (a .0) + 1) j (drop (stay-words (a .0) + 1) ws)) len ∙ d .1 .0)
+row-offers n p ws x e = by (row-parts n p ws x e)
+  where
+    by : Row-parts n p ws x → read-offers n (p + stay-words (x .stay) + 1) (length (x .offers)) (drop (stay-words (x .stay) + 1) ws) ≡ Ok (x .offers)
+    by r =
+        let len = offers-exact n (p + stay-words (x .stay) + 1) (r .count) (drop (stay-words (x .stay) + 1) ws) (x .offers) (r .offers) .0 in
+        ap (λ j. read-offers n (p + stay-words (x .stay) + 1) j (drop (stay-words (x .stay) + 1) ws)) len ∙ r .offers
 
 pub no-rows : (n p k : ℕ) (ws : List ℕ) → k ≡ 0 → good [] (read-rows n p k ws) ≡ []
 unfolding read-rows

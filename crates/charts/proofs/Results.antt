@@ -21,6 +21,15 @@ pub mapped-ok : {X Y E : Type 0} (f : X → Y) (r : Result X E) (y : Y) → mapp
 mapped-ok f (Ok x) y e = (x, (refl, same-ok (f x) y e))
 mapped-ok f (Err b) y e = never-ok b y e
 
+-- the same, handed on by names, so that terms stay short
+pub then-by : {X Y E P : Type 0} (r : Result X E) (f : X → Result Y E) (y : Y) → then r f ≡ Ok y → ((x : X) → r ≡ Ok x → f x ≡ Ok y → P) → P
+then-by (Ok x) f y e k = k x refl e
+then-by (Err b) f y e k = never-ok b y e
+
+pub mapped-by : {X Y E P : Type 0} (f : X → Y) (r : Result X E) (y : Y) → mapped f r ≡ Ok y → ((x : X) → r ≡ Ok x → f x ≡ y → P) → P
+mapped-by f (Ok x) y e k = k x refl (same-ok (f x) y e)
+mapped-by f (Err b) y e k = never-ok b y e
+
 pub passed : {X E : Type 0} (b : Bool) (x y : X) (d : E) → cond b (Ok x) (Err d) ≡ Ok y → (b ≡ true) × (x ≡ y)
 passed true x y d e = (refl, same-ok x y e)
 passed false x y d e = never-ok d y e
