@@ -91,7 +91,7 @@ pub impl Source for Chart as ChartSource {
         self.tables.owners.len() as u32
     }
 
-    fn moves(&self, s: u32) -> Result<u32, OutOfRange> {
+    fn move_count(&self, s: u32) -> Result<u32, OutOfRange> {
         let row = self.row_at(s)?;
         Ok(row.offers as u32 + 1)
     }

@@ -67,7 +67,7 @@ fn count_moves<S: Source>(source: &S, s: u32) -> u32
     requires { ⌜ s < meaning (now source) .count ⌝ }
     ensures { λ r. ⌜ r ≡ length (meaning (now (source .entry)) .moves s) ⌝ }
 {
-    match source.moves(s) {
+    match source.move_count(s) {
         Ok(count) => count,
         Err(_) => unreachable(),
     }

@@ -36,7 +36,7 @@ pub trait Source {
         ensures { λ r. ⌜ r ≡ meaning (now (self .entry)) .count ⌝ };
 
     // How many moves the state `s` has.
-    fn moves(&self, s: u32) -> Result<u32, OutOfRange>
+    fn move_count(&self, s: u32) -> Result<u32, OutOfRange>
         ensures { λ r. ⌜ r ≡ move-count (meaning (now (self .entry))) s ⌝ };
 
     // The `k`-th move of the state `s`, counted from 0.

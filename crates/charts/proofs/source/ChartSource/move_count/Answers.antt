@@ -4,7 +4,7 @@ use Rattle.std.proofs.shelf.Results.{err-from-errBy}
 use Rattle.lts.proofs.Asked.{not-counted}
 use Rattle.charts.specs.Charts.{meaning-of}
 use Rattle.charts.proofs.Answering.{few-offers-in, counts-moves}
-use Rattle.charts.proofs.source.ChartSource.moves.Needs as need
+use Rattle.charts.proofs.source.ChartSource.move_count.Needs as need
 
 pub returns-in-Break-row : need.returns-in-Break-row
 returns-in-Break-row c =
