@@ -10,14 +10,13 @@ use crate::fault::ChartFault;
 use crate::fault::ChartOfWord;
 use crate::row::Offer;
 use crate::row::Stay;
+use lts::MOST_STATES;
 use lts::is_visible;
+use lts::label::TAU;
 use words::LONGEST;
 use words::RowHead;
 use words::WordFault;
 use words::arrow;
-
-// The most states that a source may have.
-pub(crate) const MOST_STATES: u32 = 4096;
 
 // A row by its plain numbers: how long it is stayed in, and how many offers it
 // has.
@@ -83,7 +82,7 @@ fn read_timeout(word: u32, place: usize, rows: u32) -> Result<u32, WordFault>
     ensures { λ r. ⌜ r ≡ timeout-in rows place word ⌝ }
 {
     let arrow = arrow(word, place)?;
-    if arrow.label != 0 || arrow.target >= rows {
+    if arrow.label != TAU || arrow.target >= rows {
         return Err(WordFault::Range(place));
     }
     Ok(arrow.target)

@@ -10,12 +10,12 @@ ghost use Rattle.words.specs.Bytes.{longest};
 ghost use Rattle.charts.specs.Rows.{stay-states, total};
 ghost use Rattle.charts.specs.Reading.{read-offers, read-rows, check-chart};
 ghost use Rattle.charts.specs.Tables.{good, entry-of, Grows, Held, Room};
-use crate::reading::MOST_STATES;
 use crate::reading::RowRead;
 use crate::reading::read_offer;
 use crate::reading::read_row;
 use crate::row::Offer;
 use crate::row::Stay;
+use lts::MOST_STATES;
 use std::alloc::AllocError;
 use std::alloc::Global;
 use words::LONGEST;
@@ -93,8 +93,9 @@ impl Tables {
             from,
             offers: row.offers,
         });
-        let _ = self.owners
-            .resize(first + row.stay.states() as usize, number);
+        let states = first + row.stay.states() as usize;
+        // There is room, so this does not fail.
+        let _ = self.owners.resize(states, number);
     }
 
     // Adds the rows that `words` begins with, which were read before.

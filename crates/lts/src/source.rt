@@ -2,6 +2,9 @@ ghost use mathlib.Core.Path.{_≡_};
 ghost use Rattle.lts.specs.Meaning.{Meaning, Laws};
 ghost use Rattle.lts.specs.Answers.{move-count, nth-move, tick-target, range-code};
 
+// The most states that a source may have.
+pub const MOST_STATES: u32 = 4_096;
+
 // One step that can be taken: its label, and where it leads. The target is a
 // state's number, or whatever else a step can lead to.
 #[derive(Clone, Copy, PartialEq, Debug)]
