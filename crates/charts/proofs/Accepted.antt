@@ -21,9 +21,10 @@ use Rattle.words.proofs.Exact.{rows-exact as word-rows-exact, rows-back as word
 use Rattle.charts.specs.declared.fault.ChartFault.{ChartFault}
 use Rattle.charts.specs.declared.fault.ChartFault.the-variants.{Word, TooManyStates}
 use Rattle.charts.specs.Rows.{Row, size, total, rows-fit, within}
-use Rattle.charts.specs.Reading.{then, read-rows, rows-words, row-words, read-whole, read-chart, overflow, sized, tested, check-chart}
+use Rattle.words.specs.Reading.{then}
+use Rattle.charts.specs.Reading.{read-rows, rows-words, row-words, read-whole, read-chart, overflow, sized, tested, check-chart}
 use Rattle.charts.specs.Encoding.{rows-encoded, encoded, Encodes, Read-one-way}
-use Rattle.charts.proofs.Results.{then-ok, passed, never-ok, same-ok}
+use Rattle.words.proofs.Results.{then-ok, passed, never-ok, same-ok}
 use Rattle.charts.proofs.Exact.{Rows-read, rows-exactly, rows-length, rows-back}
 
 -- the rows that the words of a file are

@@ -20,8 +20,9 @@ use Rattle.charts.specs.declared.fault.ChartFault.the-variants.{Word, TooManyS
 use Rattle.charts.specs.declared.reading.Sums.{Sums}
 use Rattle.charts.specs.Rows.{Row, total}
 use Rattle.charts.specs.Sums.{sums-over}
-use Rattle.charts.specs.Reading.{then, mapped, read-rows, rows-words, read-whole, read-chart, overflow, sized, tested, check-chart}
-use Rattle.charts.proofs.Results.{mapped-ok, mapped-err}
+use Rattle.words.specs.Reading.{then, mapped}
+use Rattle.charts.specs.Reading.{read-rows, rows-words, read-whole, read-chart, overflow, sized, tested, check-chart}
+use Rattle.words.proofs.Results.{mapped-ok, mapped-err}
 use Rattle.charts.proofs.RowsFaults.{sums-place, sums-states, sums-over-place}
 
 abbrev start : Sums

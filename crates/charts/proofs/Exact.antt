@@ -24,9 +24,10 @@ use Rattle.charts.specs.declared.row.Stay.{Stay}
 use Rattle.charts.specs.declared.row.Stay.the-variants.{Finite, Endless}
 use Rattle.charts.specs.declared.row.Offer.{Offer}
 use Rattle.charts.specs.Rows.{Row, stay-words, offer-fits, stay-fits, offers-fit, row-fits, rows-fit}
-use Rattle.charts.specs.Reading.{then, mapped, timeout-in, offer-in, read-timeout, read-head, read-stay, read-count, read-offers, read-row, read-rows, row-words, rows-words}
+use Rattle.words.specs.Reading.{then, mapped}
+use Rattle.charts.specs.Reading.{timeout-in, offer-in, read-timeout, read-head, read-stay, read-count, read-offers, read-row, read-rows, row-words, rows-words}
 use Rattle.charts.specs.Encoding.{offer-word, stay-encoded, row-encoded, rows-encoded}
-use Rattle.charts.proofs.Results.{then-ok, then-by, mapped-ok, mapped-by, passed, never-ok, same-ok}
+use Rattle.words.proofs.Results.{then-ok, then-by, mapped-ok, mapped-by, passed, never-ok, same-ok}
 
 tau-label : label 0 ≡ true
 unfolding label

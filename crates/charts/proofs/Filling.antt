@@ -13,7 +13,8 @@ use Rattle.std.proofs.shelf.Lists.{append-assoc, take-all}
 use Rattle.words.specs.declared.fault.WordFault.{WordFault}
 use Rattle.charts.specs.declared.row.Offer.{Offer}
 use Rattle.charts.specs.Rows.{Row}
-use Rattle.charts.specs.Reading.{then, mapped, offer-in, read-offers}
+use Rattle.words.specs.Reading.{then, mapped}
+use Rattle.charts.specs.Reading.{offer-in, read-offers}
 use Rattle.charts.specs.Tables.{good}
 
 pub is-ok : {X E : Type 0} (r : Result X E) → isOk r ≡ true → (x : X) × (r ≡ Ok x)

@@ -17,9 +17,10 @@ use Rattle.charts.specs.declared.reading.RowRead.{RowRead}
 use Rattle.charts.specs.declared.tables.RowEntry.{RowEntry}
 use Rattle.charts.specs.Rows.{Row, size, stay-states, total, stay-words}
 use Rattle.charts.specs.Sums.{row-read, read-words}
-use Rattle.charts.specs.Reading.{then, mapped, read-offers, read-row, read-rows, row-words}
+use Rattle.words.specs.Reading.{then, mapped}
+use Rattle.charts.specs.Reading.{read-offers, read-row, read-rows, row-words}
 use Rattle.charts.specs.Tables.{good, entry-of, laid, all-offers, owners, Grown}
-use Rattle.charts.proofs.Results.{mapped-ok, mapped-err}
+use Rattle.words.proofs.Results.{mapped-ok, mapped-err}
 use Rattle.charts.proofs.Exact.{Row-parts, row-parts, offers-exact}
 use Rattle.charts.proofs.Filling.{mapped-is-ok, mapped-good, one-then-more}
 

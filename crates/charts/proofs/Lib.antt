@@ -1,5 +1,4 @@
 pub mod Offers
-pub mod Results
 pub mod Exact
 pub mod Accepted
 pub mod RowFaults

@@ -9,7 +9,8 @@ use Rattle.std.specs.declared.result.Result.the-variants.{Ok, Err}
 use Rattle.words.specs.declared.fault.WordFault.{WordFault}
 use Rattle.words.specs.declared.fault.WordFault.the-variants.{Length}
 use Rattle.charts.specs.declared.row.Offer.{Offer}
-use Rattle.charts.specs.Reading.{then, mapped, offer-in, read-offers}
+use Rattle.words.specs.Reading.{then, mapped}
+use Rattle.charts.specs.Reading.{offer-in, read-offers}
 
 abbrev pub Tested : ℕ → ℕ → ℕ → List ℕ → Result (Unit {0}) WordFault
 Tested n p k ws = mapped (λ _. tt {0}) (read-offers n p k ws)

@@ -15,10 +15,11 @@ use Rattle.charts.specs.declared.row.Stay.the-variants.{Endless}
 use Rattle.charts.specs.declared.tables.Tables.{Tables}
 use Rattle.charts.specs.Rows.{Row, total, within, rows-fit, offers-fit}
 use Rattle.charts.specs.Encoding.{Encodes, Chart-file}
-use Rattle.charts.specs.Reading.{mapped, check-chart}
+use Rattle.words.specs.Reading.{mapped}
+use Rattle.charts.specs.Reading.{check-chart}
 use Rattle.charts.specs.Charts.{resting}
 use Rattle.charts.specs.Tables.{good, table-rows, entry-of, laid, all-offers, owners, Held}
-use Rattle.charts.proofs.Results.{mapped-ok, mapped-err, never-ok}
+use Rattle.words.proofs.Results.{mapped-ok, mapped-err, never-ok}
 use Rattle.charts.proofs.Accepted.{accepted-encodes, encodes-accepted}
 use Rattle.charts.proofs.Refilling.{held-rows}
 

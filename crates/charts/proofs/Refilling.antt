@@ -21,9 +21,10 @@ use Rattle.charts.specs.declared.tables.RowEntry.{RowEntry}
 use Rattle.charts.specs.declared.tables.Tables.{Tables}
 use Rattle.charts.specs.Rows.{Row, size, total}
 use Rattle.charts.specs.Encoding.{Encodes}
-use Rattle.charts.specs.Reading.{then, read-rows, rows-words, read-whole, check-chart}
+use Rattle.words.specs.Reading.{then}
+use Rattle.charts.specs.Reading.{read-rows, rows-words, read-whole, check-chart}
 use Rattle.charts.specs.Tables.{good, entry-row, table-rows, laid, all-offers, owners, entry-firsts, entry-counts, firsts, offer-counts, Grown, Held}
-use Rattle.charts.proofs.Results.{then-ok, passed, never-ok, same-ok}
+use Rattle.words.proofs.Results.{then-ok, passed, never-ok, same-ok}
 use Rattle.charts.proofs.Accepted.{tested-ok, read-ok, accepted-encodes, limits-of}
 use Rattle.charts.proofs.Filling.{is-ok}
 

@@ -17,10 +17,11 @@ use Rattle.charts.specs.declared.row.Stay.the-variants.{Finite, Endless}
 use Rattle.charts.specs.declared.reading.RowRead.{RowRead}
 use Rattle.charts.specs.Rows.{Row, stay-words, last-second, stay-fits, offers-fit}
 use Rattle.charts.specs.Sums.{row-read, Row-bounds}
-use Rattle.charts.specs.Reading.{then, mapped, read-stay, read-count, read-offers, read-row}
+use Rattle.words.specs.Reading.{then, mapped}
+use Rattle.charts.specs.Reading.{read-stay, read-count, read-offers, read-row}
 use Rattle.charts.specs.Encoding.{row-encoded}
 use Rattle.charts.proofs.Offers.{Tested}
-use Rattle.charts.proofs.Results.{mapped-ok, mapped-err}
+use Rattle.words.proofs.Results.{mapped-ok, mapped-err}
 use Rattle.charts.proofs.Exact.{offers-exact, row-of-parts, Row-read, row-exactly, row-length}
 use Rattle.charts.proofs.Dwells.{seconds-most}
 

@@ -17,8 +17,9 @@ use Rattle.charts.specs.declared.reading.RowRead.{RowRead}
 use Rattle.charts.specs.declared.reading.Sums.{Sums}
 use Rattle.charts.specs.Rows.{Row, size, total}
 use Rattle.charts.specs.Sums.{row-read, read-words, over-with, sums-with, sums-over}
-use Rattle.charts.specs.Reading.{then, mapped, read-row, read-rows, row-words, rows-words, overflow}
-use Rattle.charts.proofs.Results.{mapped-ok, mapped-err}
+use Rattle.words.specs.Reading.{then, mapped}
+use Rattle.charts.specs.Reading.{read-row, read-rows, row-words, rows-words, overflow}
+use Rattle.words.proofs.Results.{mapped-ok, mapped-err}
 
 abbrev Summed : ℕ → ℕ → List ℕ → Sums → Result Sums WordFault
 Summed n k ws s = mapped (sums-over s) (read-rows n (s .place) k ws)

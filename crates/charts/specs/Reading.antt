@@ -14,6 +14,7 @@ use Rattle.words.specs.declared.fault.WordFault.{WordFault}
 use Rattle.words.specs.declared.fault.WordFault.the-variants.{Length, Form, Range}
 use Rattle.words.specs.declared.word.RowHead.{RowHead}
 use Rattle.words.specs.declared.word.RowHead.the-variants.{Dwell, Endless as EndlessHead}
+use Rattle.words.specs.Reading.{then, mapped}
 use Rattle.words.specs.Words.{rows-in, row-in, arrow-in, offers-in}
 use Rattle.words.specs.Bytes.{longest}
 use Rattle.charts.specs.declared.row.Stay.{Stay}
@@ -22,15 +23,6 @@ use Rattle.charts.specs.declared.row.Offer.{Offer}
 use Rattle.charts.specs.declared.fault.ChartFault.{ChartFault}
 use Rattle.charts.specs.declared.fault.ChartFault.the-variants.{Word, TooManyStates}
 use Rattle.charts.specs.Rows.{Row, size, stay-words}
-
--- one reading after another: the first fault stands
-abbrev pub then : {X Y E : Type 0} → Result X E → (X → Result Y E) → Result Y E
-then (Ok x) f = f x
-then (Err e) f = Err e
-
-abbrev pub mapped : {X Y E : Type 0} → (X → Y) → Result X E → Result Y E
-mapped f (Ok x) = Ok (f x)
-mapped f (Err e) = Err e
 
 -- a word B as a timeout: the label τ, and a row below n
 abbrev pub timeout-in : ℕ → ℕ → ℕ → Result ℕ WordFault

@@ -1,3 +1,4 @@
 pub mod Exact
 pub mod Whole
 pub mod Little
+pub mod Results

@@ -19,7 +19,8 @@ use Rattle.words.specs.declared.word.Word.{Word}
 use Rattle.words.specs.declared.word.Word.the-variants.{Operator as Term, Definitions, States, Moves, Move as Arrow, Rows, Row, Offers}
 use Rattle.words.specs.Words.{kind, definitions-in, states-in, moves-in, rows-in, offers-in, arrow-in, row-in}
 use Rattle.words.specs.Operators.{operator-in}
-use Rattle.words.specs.Decoded.{named, decoded}
+use Rattle.words.specs.Reading.{mapped}
+use Rattle.words.specs.Decoded.{decoded}
 use Rattle.words.specs.Encoded.{arrow-word, operator-word, word-of, Operator-fits, Fitting}
 use Rattle.words.proofs.Exact as exact
 
@@ -27,7 +28,7 @@ use Rattle.words.proofs.Exact as exact
 abbrev Says : ℕ → Word → Type 0
 Says w x = (word-of x ≡ w) × Fitting x
 
-found : {X : Type 0} (w : ℕ) (name : X → Word) (r : Result X WordFault) → ((x : X) → r ≡ Ok x → Says w (name x)) → made (named name r) (Says w)
+found : {X : Type 0} (w : ℕ) (name : X → Word) (r : Result X WordFault) → ((x : X) → r ≡ Ok x → Says w (name x)) → made (mapped name r) (Says w)
 found w name (Ok x) h = h x refl
 found w name (Err fault) h = tt
 
@@ -61,10 +62,10 @@ operator-kind (Relabel a b) f = grind (arith, tells)
 operator-kind (Refer n) f = grind (arith, tells)
 
 operator-decoded : (place w : ℕ) (o : Operator) → ltb (kind w) 8 ≡ true → operator-in place w ≡ Ok o → decoded place w ≡ Ok (Term o)
-operator-decoded place w o k e = rw k (ap (named Term) e)
+operator-decoded place w o k e = rw k (ap (mapped Term) e)
 
 arrow-decoded : (place w : ℕ) (m : Move ℕ) → kind w ≡ 11 → arrow-in place w ≡ Ok m → decoded place w ≡ Ok (Arrow m)
-arrow-decoded place w m k e = simp k (ap (named Arrow) (simp k at e))
+arrow-decoded place w m k e = simp k (ap (mapped Arrow) (simp k at e))
 
 pub decoded-back : (place : ℕ) (x : Word) → Fitting x → decoded place (word-of x) ≡ Ok x
 decoded-back place (Term o) f = operator-decoded place (operator-word o) o (operator-kind o f) (exact.operator-back place o f)

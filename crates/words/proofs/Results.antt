@@ -5,7 +5,7 @@ use Prim.Native.Nat.{ℕ}
 use native.Mathlib.Omega.{arith}
 use Rattle.std.specs.declared.result.Result.{Result}
 use Rattle.std.specs.declared.result.Result.the-variants.{Ok, Err}
-use Rattle.charts.specs.Reading.{then, mapped}
+use Rattle.words.specs.Reading.{then, mapped}
 
 pub never-ok : {X E P : Type 0} (e : E) (x : X) → _≡_ {A = Result X E} (Err e) (Ok x) → P
 never-ok e x p = absurd (let z : _≡_ {A = ℕ} 0 1 = cc in omega arith)
