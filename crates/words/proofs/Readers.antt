@@ -1,0 +1,263 @@
+-- Readers of words whose faults name the first word at fault: up to there the words could still become such as are read,
+-- and with the word there they no more can. Whatever is put together from such readers is one.
+use mathlib.Core.Path.{_≡_, refl, sym, ap, subst, fun-ext, _∙_}
+use mathlib.Core.Logic.{_⊎_, inl, inr}
+use mathlib.Core.List.{List, [], _∷_, _++_}
+use Prim.Native.Nat.{ℕ, zero, suc, _+_, _-_, _<_, _≤_}
+use native.Mathlib.Omega.{arith}
+use native.Mathlib.Nat.{add-assoc, add-zero}
+use lib.ListN.{length, take, drop}
+use lib.Seq.{take-add, take-append-add}
+use Rattle.std.specs.declared.result.Result.{Result}
+use Rattle.std.specs.declared.result.Result.the-variants.{Ok, Err}
+use Rattle.std.proofs.shelf.Tests.{cases-lt}
+use Rattle.std.proofs.shelf.Lists.{append-assoc, take-append-drop, length-take-le, length-drop, take-take, take-append-le, drop-at}
+use Rattle.words.specs.declared.fault.WordFault.{WordFault}
+use Rattle.words.specs.declared.fault.WordFault.the-variants.{Length, Form, Range}
+use Rattle.words.specs.Faults.{fault-place}
+use Rattle.words.specs.Reading.{then, mapped}
+use Rattle.words.proofs.Results.{never-ok, same-ok, then-by, mapped-by}
+
+-- from the place of the first word, and the words, to what was read, or a fault
+abbrev pub Reader : Type 0 → Type 0
+Reader A = ℕ → List ℕ → Result A WordFault
+
+-- a fault at the i-th of n words: the words end there, or there is one that is bad
+abbrev pub Ends : WordFault → ℕ → ℕ → Type 0
+Ends (Length q) i n = i ≡ n
+Ends (Form q) i n = i < n
+Ends (Range q) i n = i < n
+
+pub record Stops {A : Type 0} (P : Reader A) (p : ℕ) (ws : List ℕ) (f : WordFault) : Type 0 where
+  pub at : ℕ
+  pub place : fault-place f ≡ p + at
+  pub within : at ≤ length ws
+  pub ends : Ends f at (length ws)
+  pub rest : List ℕ
+  pub some : A
+  pub more : P p (take at ws ++ rest) ≡ Ok some
+  pub never : at < length ws → (v : List ℕ) (a : A) → P p (take (suc at) ws ++ v) ≡ Ok a → ⊥
+
+pub record Good {A : Type 0} (used : A → ℕ) (P : Reader A) : Type 0 where
+  -- something is read
+  pub sample : ℕ → List ℕ
+  pub what : ℕ → A
+  pub some : (p : ℕ) → P p (sample p) ≡ Ok (what p)
+  -- just the words that are used are looked at
+  pub inside : (p : ℕ) (ws : List ℕ) (a : A) → P p ws ≡ Ok a → used a ≤ length ws
+  pub local : (p : ℕ) (ws : List ℕ) (a : A) → P p ws ≡ Ok a → (v : List ℕ) → P p (take (used a) ws ++ v) ≡ Ok a
+  pub faults : (p : ℕ) (ws : List ℕ) (f : WordFault) → P p ws ≡ Err f → Stops P p ws f
+
+pub never-err : {X E P : Type 0} (e : E) (x : X) → _≡_ {A = Result X E} (Ok x) (Err e) → P
+never-err e x p = never-ok e x (sym p)
+
+-- nothing is read
+pub nothing : {A : Type 0} (used : A → ℕ) (a : A) → used a ≡ 0 → Good used (λ p ws. Ok a)
+nothing used a z = record {
+  sample = λ p. [];
+  what = λ p. a;
+  some = λ p. refl;
+  inside = λ p ws b e. let s = ap used (same-ok a b e) in omega arith;
+  local = λ p ws b e v. e;
+  faults = λ p ws f e. never-err f a e;
+}
+
+-- one word
+abbrev pub one-word : {A : Type 0} → (ℕ → ℕ → Result A WordFault) → ℕ → List ℕ → Result A WordFault
+one-word W p [] = Err (Length p)
+one-word W p (w ∷ ws) = W p w
+
+-- a fault of the word at p
+abbrev pub Bad : WordFault → ℕ → Type 0
+Bad (Length q) p = ⊥
+Bad (Form q) p = q ≡ p
+Bad (Range q) p = q ≡ p
+
+module _ {A : Type 0} (used : A → ℕ) (W : ℕ → ℕ → Result A WordFault) (w₀ : ℕ) (a₀ : A) (good : (p : ℕ) → W p w₀ ≡ Ok a₀)
+  (uses : (a : A) → used a ≡ 1) (bad : (p w : ℕ) (f : WordFault) → W p w ≡ Err f → Bad f p) where
+  stops : (p w : ℕ) (ws : List ℕ) (f : WordFault) → Bad f p → W p w ≡ Err f → Stops (one-word W) p (w ∷ ws) f
+  stops p w ws (Length q) b e = absurd b
+  stops p w ws (Form q) b e = record {
+    at = 0; place = b ∙ sym (add-zero p); within = omega arith; ends = omega arith; rest = w₀ ∷ []; some = a₀; more = good p;
+    never = λ h v a k. never-ok (Form q) a (sym e ∙ k);
+  }
+  stops p w ws (Range q) b e = record {
+    at = 0; place = b ∙ sym (add-zero p); within = omega arith; ends = omega arith; rest = w₀ ∷ []; some = a₀; more = good p;
+    never = λ h v a k. never-ok (Range q) a (sym e ∙ k);
+  }
+
+  none : (p : ℕ) → Stops (one-word W) p [] (Length p)
+  none p = record {
+    at = 0; place = sym (add-zero p); within = omega arith; ends = refl; rest = w₀ ∷ []; some = a₀; more = good p;
+    never = λ h v a k. absurd (omega arith);
+  }
+
+  inside-one : (p : ℕ) (ws : List ℕ) (a : A) → one-word W p ws ≡ Ok a → used a ≤ length ws
+  inside-one p [] a e = never-ok _ a e
+  inside-one p (w ∷ ws) a e = omega (arith, uses a)
+
+  local-one : (p : ℕ) (ws : List ℕ) (a : A) → one-word W p ws ≡ Ok a → (v : List ℕ) → one-word W p (take (used a) ws ++ v) ≡ Ok a
+  local-one p [] a e v = never-ok _ a e
+  local-one p (w ∷ ws) a e v = subst (λ j. one-word W p (take j (w ∷ ws) ++ v) ≡ Ok a) (sym (uses a)) e
+
+  same-err : (e f : WordFault) → _≡_ {A = Result A WordFault} (Err e) (Err f) → e ≡ f
+  same-err e f q = cc
+
+  faults-one : (p : ℕ) (ws : List ℕ) (f : WordFault) → one-word W p ws ≡ Err f → Stops (one-word W) p ws f
+  faults-one p [] f e = subst (λ (g : WordFault). Stops (one-word W) p [] g) (same-err (Length p) f e) (none p)
+  faults-one p (w ∷ ws) f e = stops p w ws f (bad p w f e) e
+
+  pub word-good : Good used (one-word W)
+  word-good = record { sample = λ p. w₀ ∷ []; what = λ p. a₀; some = good; inside = inside-one; local = local-one; faults = faults-one }
+
+-- the result under another name
+module _ {A B : Type 0} (ua : A → ℕ) (ub : B → ℕ) (g : A → B) (P : Reader A) (uses : (a : A) → ub (g a) ≡ ua a) (G : Good ua P) where
+  abbrev Named : ℕ → List ℕ → Result B WordFault
+  Named p ws = mapped g (P p ws)
+
+  named-err : (r : Result A WordFault) (f : WordFault) → mapped g r ≡ Err f → r ≡ Err f
+  named-err (Ok a) f e = never-err f (g a) e
+  named-err (Err d) f e = cc
+
+  stops-named : (p : ℕ) (ws : List ℕ) (f : WordFault) → Stops P p ws f → Stops Named p ws f
+  stops-named p ws f s = record {
+    at = s .at; place = s .place; within = s .within; ends = s .ends; rest = s .rest; some = g (s .some); more = ap (mapped g) (s .more);
+    never = λ h v b e. mapped-by g (P p (take (suc (s .at)) ws ++ v)) b e (λ a q _. s .never h v a q);
+  }
+
+  pub named-good : Good ub Named
+  named-good = record {
+    sample = G .sample;
+    what = λ p. g (G .what p);
+    some = λ p. ap (mapped g) (G .some p);
+    inside = λ p ws b e. mapped-by g (P p ws) b e (λ a q k. let h = G .inside p ws a q in let u = uses a in let m = ap ub k in omega arith);
+    local = λ p ws b e v. mapped-by g (P p ws) b e (λ a q k. subst (λ (c : B). Named p (take (ub c) ws ++ v) ≡ Ok c) k (subst (λ j. Named p (take j ws ++ v) ≡ Ok (g a)) (sym (uses a)) (ap (mapped g) (G .local p ws a q v))));
+    faults = λ p ws f e. stops-named p ws f (G .faults p ws f (named-err (P p ws) f e));
+  }
+
+-- one reader, and behind its words another
+module _ {A B C : Type 0} (ua : A → ℕ) (ub : B → ℕ) (uc : C → ℕ) (g : A → B → C) (P : Reader A) (Q : A → Reader B)
+  (uses : (a : A) (b : B) → uc (g a b) ≡ ua a + ub b) (G : Good ua P) (H : (p : ℕ) (ws : List ℕ) (a : A) → P p ws ≡ Ok a → Good ub (Q a)) where
+  abbrev pub Both : Reader C
+  Both p ws = then (P p ws) (λ a. mapped (g a) (Q a (p + ua a) (drop (ua a) ws)))
+
+  -- the first words are read, and the second behind them
+  joined : (p : ℕ) (front back : List ℕ) (a : A) (b : B) → length front ≡ ua a → P p (front ++ back) ≡ Ok a → Q a (p + ua a) back ≡ Ok b → Both p (front ++ back) ≡ Ok (g a b)
+  joined p front back a b l e q =
+      ap (λ r. then r (λ a. mapped (g a) (Q a (p + ua a) (drop (ua a) (front ++ back))))) e
+      ∙ ap (λ v. mapped (g a) (Q a (p + ua a) v)) (drop-at front back (ua a) l) ∙ ap (mapped (g a)) q
+
+  front-length : (p : ℕ) (ws : List ℕ) (a : A) → P p ws ≡ Ok a → length (take (ua a) ws) ≡ ua a
+  front-length p ws a e = length-take-le (ua a) ws (G .inside p ws a e)
+
+  -- where something is read, the sample of the second goes behind it
+  extended : (p : ℕ) (ws : List ℕ) (a : A) (e : P p ws ≡ Ok a) → Both p (take (ua a) ws ++ H p ws a e .sample (p + ua a)) ≡ Ok (g a (H p ws a e .what (p + ua a)))
+  extended p ws a e = joined p (take (ua a) ws) (H p ws a e .sample (p + ua a)) a (H p ws a e .what (p + ua a)) (front-length p ws a e) (G .local p ws a e _) (H p ws a e .some (p + ua a))
+
+  inside-both : (p : ℕ) (ws : List ℕ) (c : C) → Both p ws ≡ Ok c → uc c ≤ length ws
+  inside-both p ws c e =
+      then-by (P p ws) _ c e (λ a q e.
+      mapped-by (g a) (Q a (p + ua a) (drop (ua a) ws)) c e (λ b k e.
+      let x = G .inside p ws a q in
+      let y = H p ws a q .inside (p + ua a) (drop (ua a) ws) b k in
+      let l = length-drop (ua a) ws in
+      let u = uses a b in
+      let m = ap uc e in
+      omega arith))
+
+  local-both : (p : ℕ) (ws : List ℕ) (c : C) → Both p ws ≡ Ok c → (v : List ℕ) → Both p (take (uc c) ws ++ v) ≡ Ok c
+  local-both p ws c e v =
+      then-by (P p ws) _ c e (λ a q e.
+      mapped-by (g a) (Q a (p + ua a) (drop (ua a) ws)) c e (λ b k e.
+      let shape : take (ua a + ub b) ws ++ v ≡ take (ua a) ws ++ (take (ub b) (drop (ua a) ws) ++ v)
+          = ap (λ u. u ++ v) (take-add (ua a) (ub b) ws) ∙ append-assoc (take (ua a) ws) (take (ub b) (drop (ua a) ws)) v in
+      let here = joined p (take (ua a) ws) (take (ub b) (drop (ua a) ws) ++ v) a b (front-length p ws a q) (G .local p ws a q _) (H p ws a q .local (p + ua a) (drop (ua a) ws) b k v) in
+      subst (λ (z : C). Both p (take (uc z) ws ++ v) ≡ Ok z) e
+      (subst (λ j. Both p (take j ws ++ v) ≡ Ok (g a b)) (sym (uses a b)) (ap (Both p) shape ∙ here))))
+
+  -- the first reader is at fault
+  first-stops : (p : ℕ) (ws : List ℕ) (f : WordFault) → P p ws ≡ Err f → Stops P p ws f → Stops Both p ws f
+  first-stops p ws f e s =
+      let list = take (s .at) ws ++ s .rest in
+      let a = s .some in
+      let len : length (take (s .at) ws) ≡ s .at = length-take-le (s .at) ws (s .within) in
+      let later : s .at ≤ ua a = elim (cases-lt (ua a) (s .at)) [ inl l ↦ absurd (never-ok f a (sym e ∙ whole l)) | inr l ↦ l ] in
+      let shape : take (ua a) list ≡ take (s .at) ws ++ take (ua a - s .at) (s .rest) = split later len in
+      record {
+        at = s .at; place = s .place; within = s .within; ends = s .ends;
+        rest = take (ua a - s .at) (s .rest) ++ H p list a (s .more) .sample (p + ua a);
+        some = g a (H p list a (s .more) .what (p + ua a));
+        more = ap (Both p) (sym (ap (λ u. u ++ H p list a (s .more) .sample (p + ua a)) shape ∙ append-assoc (take (s .at) ws) (take (ua a - s .at) (s .rest)) (H p list a (s .more) .sample (p + ua a)))) ∙ extended p list a (s .more);
+        never = λ h v c k. then-by (P p (take (suc (s .at)) ws ++ v)) _ c k (λ b q _. s .never h v b q);
+      }
+    where
+    -- had the words before the fault sufficed, there were none
+    whole : ua (s .some) < s .at → P p ws ≡ Ok (s .some)
+    whole l =
+        let n = ua (s .some) in
+        let le : n ≤ length (take (s .at) ws) = omega (arith, length-take-le (s .at) ws (s .within)) in
+        let same : take n (take (s .at) ws ++ s .rest) ≡ take n ws = take-append-le n (take (s .at) ws) (s .rest) le ∙ take-take n (s .at) ws (omega arith) in
+        ap (P p) (sym (ap (λ u. u ++ drop n ws) same ∙ take-append-drop n ws)) ∙ G .local p (take (s .at) ws ++ s .rest) (s .some) (s .more) (drop n ws)
+    split : s .at ≤ ua (s .some) → length (take (s .at) ws) ≡ s .at → take (ua (s .some)) (take (s .at) ws ++ s .rest) ≡ take (s .at) ws ++ take (ua (s .some) - s .at) (s .rest)
+    split l len =
+        let sum : ua (s .some) ≡ length (take (s .at) ws) + (ua (s .some) - s .at) = omega arith in
+        ap (λ j. take j (take (s .at) ws ++ s .rest)) sum ∙ take-append-add (take (s .at) ws) (s .rest) (ua (s .some) - s .at)
+
+  ends-later : (f : WordFault) (u i n : ℕ) → u ≤ n → Ends f i (n - u) → Ends f (u + i) n
+  ends-later (Length q) u i n l e = omega arith
+  ends-later (Form q) u i n l e = omega arith
+  ends-later (Range q) u i n l e = omega arith
+
+  -- the second reader is at fault
+  second-stops : (p : ℕ) (ws : List ℕ) (f : WordFault) (a : A) → P p ws ≡ Ok a → Stops (Q a) (p + ua a) (drop (ua a) ws) f → Stops Both p ws f
+  second-stops p ws f a e s =
+      let u = ua a in
+      let lu = G .inside p ws a e in
+      let ld = length-drop u ws in
+      let shape : (v : List ℕ) → take (u + s .at) ws ++ v ≡ take u ws ++ (take (s .at) (drop u ws) ++ v)
+          = λ v. ap (λ z. z ++ v) (take-add u (s .at) ws) ∙ append-assoc (take u ws) (take (s .at) (drop u ws)) v in
+      let shape2 : (v : List ℕ) → take (suc (u + s .at)) ws ++ v ≡ take u ws ++ (take (suc (s .at)) (drop u ws) ++ v)
+          = λ v. ap (λ j. take j ws ++ v) (next u (s .at)) ∙ ap (λ z. z ++ v) (take-add u (suc (s .at)) ws) ∙ append-assoc (take u ws) (take (suc (s .at)) (drop u ws)) v in
+      record {
+        at = u + s .at;
+        place = s .place ∙ add-assoc p u (s .at);
+        within = omega (arith, s .within);
+        ends = ends-later f u (s .at) (length ws) lu (subst (λ j. Ends f (s .at) j) ld (s .ends));
+        rest = s .rest;
+        some = g a (s .some);
+        more = ap (Both p) (shape (s .rest)) ∙ joined p (take u ws) (take (s .at) (drop u ws) ++ s .rest) a (s .some) (front-length p ws a e) (G .local p ws a e _) (s .more);
+        never = λ h v c k. refuted lu (omega (arith, ld)) v c (sym (ap (Both p) (shape2 v)) ∙ k);
+      }
+    where
+    next : (u i : ℕ) → suc (u + i) ≡ u + suc i
+    next u i = omega arith
+    refuted : ua a ≤ length ws → s .at < length (drop (ua a) ws) → (v : List ℕ) (c : C) → Both p (take (ua a) ws ++ (take (suc (s .at)) (drop (ua a) ws) ++ v)) ≡ Ok c → ⊥
+    refuted lu h v c k =
+        let tail = take (suc (s .at)) (drop (ua a) ws) ++ v in
+        then-by (P p (take (ua a) ws ++ tail)) _ c k (λ b q k.
+        let same : b ≡ a = same-ok b a (sym q ∙ G .local p ws a e tail) in
+        mapped-by (g b) (Q b (p + ua b) (drop (ua b) (take (ua a) ws ++ tail))) c k (λ d r _.
+        s .never h v d (sym (ap (Q a (p + ua a)) (drop-at (take (ua a) ws) tail (ua a) (front-length p ws a e))) ∙ subst (λ (z : A). Q z (p + ua z) (drop (ua z) (take (ua a) ws ++ tail)) ≡ Ok d) same r)))
+
+  err-by : {X : Type 0} (p : ℕ) (ws : List ℕ) (r : Result A WordFault) (f : WordFault) → then r (λ a. mapped (g a) (Q a (p + ua a) (drop (ua a) ws))) ≡ Err f
+    → (r ≡ Err f → X) → ((a : A) → r ≡ Ok a → Q a (p + ua a) (drop (ua a) ws) ≡ Err f → X) → X
+  err-by p ws (Ok a) f e k h = h a refl (mapped-back (Q a (p + ua a) (drop (ua a) ws)) e)
+    where
+    mapped-back : (r : Result B WordFault) → mapped (g a) r ≡ Err f → r ≡ Err f
+    mapped-back (Ok b) e = never-err f (g a b) e
+    mapped-back (Err d) e = cc
+  err-by p ws (Err d) f e k h = k (cc)
+
+  pub both-good : Good uc Both
+  both-good = record {
+    sample = λ p. take (ua (G .what p)) (G .sample p) ++ H p (G .sample p) (G .what p) (G .some p) .sample (p + ua (G .what p));
+    what = λ p. g (G .what p) (H p (G .sample p) (G .what p) (G .some p) .what (p + ua (G .what p)));
+    some = λ p. extended p (G .sample p) (G .what p) (G .some p);
+    inside = inside-both;
+    local = local-both;
+    faults = λ p ws f e. err-by p ws (P p ws) f e (λ q. first-stops p ws f q (G .faults p ws f q)) (λ a q k. second-stops p ws f a q (H p ws a q .faults (p + ua a) (drop (ua a) ws) f k));
+  }
+
+-- a reader that reads the same
+pub same-good : {A : Type 0} (used : A → ℕ) (P Q : Reader A) → ((p : ℕ) (ws : List ℕ) → P p ws ≡ Q p ws) → Good used P → Good used Q
+same-good used P Q e G = subst (λ (R : ℕ → List ℕ → Result _ WordFault). Good used R) (fun-ext (λ p. fun-ext (λ ws. e p ws))) G
