@@ -213,7 +213,7 @@ rows-exactly n p (suc k) ws xs e =
 
 -- what was encoded is read back
 
-timeout-back : (n p t : ℕ) → n ≤ 256 → ltb t n ≡ true → timeout-in n p (arrow-word (record { label = 0; target = t })) ≡ Ok t
+pub timeout-back : (n p t : ℕ) → n ≤ 256 → ltb t n ≡ true → timeout-in n p (arrow-word (record { label = 0; target = t })) ≡ Ok t
 timeout-back n p t few h =
     let l = ltb-true t n h in
     let small : t < 2 ^ 20 = omega arith in

@@ -12,3 +12,5 @@ pub mod Placing
 pub mod States
 pub mod Laws
 pub mod Answering
+pub mod ChartReader
+pub mod FirstFault

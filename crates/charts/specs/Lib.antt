@@ -4,6 +4,7 @@ pub mod Faults
 pub mod Reading
 pub mod Sums
 pub mod Encoding
+pub mod Refusals
 pub mod Tables
 pub mod Charts
 pub mod Standing

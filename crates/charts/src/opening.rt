@@ -7,6 +7,7 @@ ghost use Rattle.std.specs.declared.result.Result.the-variants.{Ok, Err};
 ghost use Rattle.charts.specs.Rows.{total};
 ghost use Rattle.charts.specs.Reading.{check-chart};
 ghost use Rattle.charts.specs.Encoding.{Encodes, Chart-file, Read-one-way};
+ghost use Rattle.charts.specs.Refusals.{Refused-for};
 ghost use Rattle.charts.specs.Charts.{rows-of, resting};
 use crate::chart::Chart;
 use crate::fault::ChartFault;
@@ -37,6 +38,7 @@ impl Chart {
     // states it has; or refuses them, and leaves the place as it was.
     pub fn fill(&mut self, words: &[u32]) -> Result<u32, ChartFault>
         ensures accepted { λ r. ⌜ (isOk r ≡ true) ↔ Chart-file (now (words .entry)) ⌝ }
+        ensures refused { λ r. ⌜ Cases r (λ _. Unit {0}) (λ f. Refused-for (now (words .entry)) f) ⌝ }
         ensures encodes { λ r. ⌜ made r (λ _. Encodes (rows-of (now (self .exit))) (now (words .entry))) ⌝ }
         ensures place { λ r. ⌜ Cases r (λ n. (check-chart (now (words .entry)) ≡ Ok (rows-of (now (self .exit)))) × (n ≡ total (rows-of (now (self .exit)))) × (now (self .exit) .opened ≡ true)) (λ f. (check-chart (now (words .entry)) ≡ Err f) × (now (self .exit) ≡ now (self .entry))) ⌝ }
     {

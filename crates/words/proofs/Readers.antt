@@ -74,21 +74,39 @@ Bad (Form q) p = q ≡ p
 Bad (Range q) p = q ≡ p
 
 module _ {A : Type 0} (used : A → ℕ) (W : ℕ → ℕ → Result A WordFault) (w₀ : ℕ) (a₀ : A) (good : (p : ℕ) → W p w₀ ≡ Ok a₀)
-  (uses : (a : A) → used a ≡ 1) (bad : (p w : ℕ) (f : WordFault) → W p w ≡ Err f → Bad f p) where
+    (uses : (a : A) → used a ≡ 1) (bad : (p w : ℕ) (f : WordFault) → W p w ≡ Err f → Bad f p) where
   stops : (p w : ℕ) (ws : List ℕ) (f : WordFault) → Bad f p → W p w ≡ Err f → Stops (one-word W) p (w ∷ ws) f
   stops p w ws (Length q) b e = absurd b
   stops p w ws (Form q) b e = record {
-    at = 0; place = b ∙ sym (add-zero p); within = omega arith; ends = omega arith; rest = w₀ ∷ []; some = a₀; more = good p;
+    at = 0;
+    place = b ∙ sym (add-zero p);
+    within = omega arith;
+    ends = omega arith;
+    rest = w₀ ∷ [];
+    some = a₀;
+    more = good p;
     never = λ h v a k. never-ok (Form q) a (sym e ∙ k);
   }
   stops p w ws (Range q) b e = record {
-    at = 0; place = b ∙ sym (add-zero p); within = omega arith; ends = omega arith; rest = w₀ ∷ []; some = a₀; more = good p;
+    at = 0;
+    place = b ∙ sym (add-zero p);
+    within = omega arith;
+    ends = omega arith;
+    rest = w₀ ∷ [];
+    some = a₀;
+    more = good p;
     never = λ h v a k. never-ok (Range q) a (sym e ∙ k);
   }
 
   none : (p : ℕ) → Stops (one-word W) p [] (Length p)
   none p = record {
-    at = 0; place = sym (add-zero p); within = omega arith; ends = refl; rest = w₀ ∷ []; some = a₀; more = good p;
+    at = 0;
+    place = sym (add-zero p);
+    within = omega arith;
+    ends = refl;
+    rest = w₀ ∷ [];
+    some = a₀;
+    more = good p;
     never = λ h v a k. absurd (omega arith);
   }
 
@@ -121,7 +139,13 @@ module _ {A B : Type 0} (ua : A → ℕ) (ub : B → ℕ) (g : A → B) (P : Rea
 
   stops-named : (p : ℕ) (ws : List ℕ) (f : WordFault) → Stops P p ws f → Stops Named p ws f
   stops-named p ws f s = record {
-    at = s .at; place = s .place; within = s .within; ends = s .ends; rest = s .rest; some = g (s .some); more = ap (mapped g) (s .more);
+    at = s .at;
+    place = s .place;
+    within = s .within;
+    ends = s .ends;
+    rest = s .rest;
+    some = g (s .some);
+    more = ap (mapped g) (s .more);
     never = λ h v b e. mapped-by g (P p (take (suc (s .at)) ws ++ v)) b e (λ a q _. s .never h v a q);
   }
 
@@ -135,9 +159,29 @@ module _ {A B : Type 0} (ua : A → ℕ) (ub : B → ℕ) (g : A → B) (P : Rea
     faults = λ p ws f e. stops-named p ws f (G .faults p ws f (named-err (P p ws) f e));
   }
 
+-- what is read after a fault is mended goes beyond it: had the words before it sufficed, there were no fault
+module _ {A : Type 0} (used : A → ℕ) (P : Reader A) (G : Good used P) (p : ℕ) (ws : List ℕ) (f : WordFault) (err : P p ws ≡ Err f) (s : Stops P p ws f) where
+  before : length (take (s .at) ws) ≡ s .at
+  before = length-take-le (s .at) ws (s .within)
+
+  whole : used (s .some) < s .at → P p ws ≡ Ok (s .some)
+  whole l =
+      let n = used (s .some) in
+      let le : n ≤ length (take (s .at) ws) = omega (arith, before) in
+      let same : take n (take (s .at) ws ++ s .rest) ≡ take n ws = take-append-le n (take (s .at) ws) (s .rest) le ∙ take-take n (s .at) ws (omega arith) in
+      ap (P p) (sym (ap (λ u. u ++ drop n ws) same ∙ take-append-drop n ws)) ∙ G .local p (take (s .at) ws ++ s .rest) (s .some) (s .more) (drop n ws)
+
+  pub goes-beyond : s .at ≤ used (s .some)
+  goes-beyond = elim (cases-lt (used (s .some)) (s .at)) [ inl l ↦ absurd (never-ok f (s .some) (sym err ∙ whole l)) | inr l ↦ l ]
+
+  pub words-beyond : take (used (s .some)) (take (s .at) ws ++ s .rest) ≡ take (s .at) ws ++ take (used (s .some) - s .at) (s .rest)
+  words-beyond =
+      let sum : used (s .some) ≡ length (take (s .at) ws) + (used (s .some) - s .at) = omega (arith, goes-beyond, before) in
+      ap (λ j. take j (take (s .at) ws ++ s .rest)) sum ∙ take-append-add (take (s .at) ws) (s .rest) (used (s .some) - s .at)
+
 -- one reader, and behind its words another
 module _ {A B C : Type 0} (ua : A → ℕ) (ub : B → ℕ) (uc : C → ℕ) (g : A → B → C) (P : Reader A) (Q : A → Reader B)
-  (uses : (a : A) (b : B) → uc (g a b) ≡ ua a + ub b) (G : Good ua P) (H : (p : ℕ) (ws : List ℕ) (a : A) → P p ws ≡ Ok a → Good ub (Q a)) where
+    (uses : (a : A) (b : B) → uc (g a b) ≡ ua a + ub b) (G : Good ua P) (H : (p : ℕ) (ws : List ℕ) (a : A) → P p ws ≡ Ok a → Good ub (Q a)) where
   abbrev pub Both : Reader C
   Both p ws = then (P p ws) (λ a. mapped (g a) (Q a (p + ua a) (drop (ua a) ws)))
 
@@ -170,7 +214,7 @@ module _ {A B C : Type 0} (ua : A → ℕ) (ub : B → ℕ) (uc : C → ℕ) (g 
       then-by (P p ws) _ c e (λ a q e.
       mapped-by (g a) (Q a (p + ua a) (drop (ua a) ws)) c e (λ b k e.
       let shape : take (ua a + ub b) ws ++ v ≡ take (ua a) ws ++ (take (ub b) (drop (ua a) ws) ++ v)
-          = ap (λ u. u ++ v) (take-add (ua a) (ub b) ws) ∙ append-assoc (take (ua a) ws) (take (ub b) (drop (ua a) ws)) v in
+      = ap (λ u. u ++ v) (take-add (ua a) (ub b) ws) ∙ append-assoc (take (ua a) ws) (take (ub b) (drop (ua a) ws)) v in
       let here = joined p (take (ua a) ws) (take (ub b) (drop (ua a) ws) ++ v) a b (front-length p ws a q) (G .local p ws a q _) (H p ws a q .local (p + ua a) (drop (ua a) ws) b k v) in
       subst (λ (z : C). Both p (take (uc z) ws ++ v) ≡ Ok z) e
       (subst (λ j. Both p (take j ws ++ v) ≡ Ok (g a b)) (sym (uses a b)) (ap (Both p) shape ∙ here))))
@@ -180,28 +224,17 @@ module _ {A B C : Type 0} (ua : A → ℕ) (ub : B → ℕ) (uc : C → ℕ) (g 
   first-stops p ws f e s =
       let list = take (s .at) ws ++ s .rest in
       let a = s .some in
-      let len : length (take (s .at) ws) ≡ s .at = length-take-le (s .at) ws (s .within) in
-      let later : s .at ≤ ua a = elim (cases-lt (ua a) (s .at)) [ inl l ↦ absurd (never-ok f a (sym e ∙ whole l)) | inr l ↦ l ] in
-      let shape : take (ua a) list ≡ take (s .at) ws ++ take (ua a - s .at) (s .rest) = split later len in
+      let shape = words-beyond ua P G p ws f e s in
       record {
-        at = s .at; place = s .place; within = s .within; ends = s .ends;
+        at = s .at;
+        place = s .place;
+        within = s .within;
+        ends = s .ends;
         rest = take (ua a - s .at) (s .rest) ++ H p list a (s .more) .sample (p + ua a);
         some = g a (H p list a (s .more) .what (p + ua a));
         more = ap (Both p) (sym (ap (λ u. u ++ H p list a (s .more) .sample (p + ua a)) shape ∙ append-assoc (take (s .at) ws) (take (ua a - s .at) (s .rest)) (H p list a (s .more) .sample (p + ua a)))) ∙ extended p list a (s .more);
         never = λ h v c k. then-by (P p (take (suc (s .at)) ws ++ v)) _ c k (λ b q _. s .never h v b q);
       }
-    where
-    -- had the words before the fault sufficed, there were none
-    whole : ua (s .some) < s .at → P p ws ≡ Ok (s .some)
-    whole l =
-        let n = ua (s .some) in
-        let le : n ≤ length (take (s .at) ws) = omega (arith, length-take-le (s .at) ws (s .within)) in
-        let same : take n (take (s .at) ws ++ s .rest) ≡ take n ws = take-append-le n (take (s .at) ws) (s .rest) le ∙ take-take n (s .at) ws (omega arith) in
-        ap (P p) (sym (ap (λ u. u ++ drop n ws) same ∙ take-append-drop n ws)) ∙ G .local p (take (s .at) ws ++ s .rest) (s .some) (s .more) (drop n ws)
-    split : s .at ≤ ua (s .some) → length (take (s .at) ws) ≡ s .at → take (ua (s .some)) (take (s .at) ws ++ s .rest) ≡ take (s .at) ws ++ take (ua (s .some) - s .at) (s .rest)
-    split l len =
-        let sum : ua (s .some) ≡ length (take (s .at) ws) + (ua (s .some) - s .at) = omega arith in
-        ap (λ j. take j (take (s .at) ws ++ s .rest)) sum ∙ take-append-add (take (s .at) ws) (s .rest) (ua (s .some) - s .at)
 
   ends-later : (f : WordFault) (u i n : ℕ) → u ≤ n → Ends f i (n - u) → Ends f (u + i) n
   ends-later (Length q) u i n l e = omega arith
@@ -215,9 +248,9 @@ module _ {A B C : Type 0} (ua : A → ℕ) (ub : B → ℕ) (uc : C → ℕ) (g 
       let lu = G .inside p ws a e in
       let ld = length-drop u ws in
       let shape : (v : List ℕ) → take (u + s .at) ws ++ v ≡ take u ws ++ (take (s .at) (drop u ws) ++ v)
-          = λ v. ap (λ z. z ++ v) (take-add u (s .at) ws) ∙ append-assoc (take u ws) (take (s .at) (drop u ws)) v in
+      = λ v. ap (λ z. z ++ v) (take-add u (s .at) ws) ∙ append-assoc (take u ws) (take (s .at) (drop u ws)) v in
       let shape2 : (v : List ℕ) → take (suc (u + s .at)) ws ++ v ≡ take u ws ++ (take (suc (s .at)) (drop u ws) ++ v)
-          = λ v. ap (λ j. take j ws ++ v) (next u (s .at)) ∙ ap (λ z. z ++ v) (take-add u (suc (s .at)) ws) ∙ append-assoc (take u ws) (take (suc (s .at)) (drop u ws)) v in
+      = λ v. ap (λ j. take j ws ++ v) (next u (s .at)) ∙ ap (λ z. z ++ v) (take-add u (suc (s .at)) ws) ∙ append-assoc (take u ws) (take (suc (s .at)) (drop u ws)) v in
       record {
         at = u + s .at;
         place = s .place ∙ add-assoc p u (s .at);
@@ -229,23 +262,24 @@ module _ {A B C : Type 0} (ua : A → ℕ) (ub : B → ℕ) (uc : C → ℕ) (g 
         never = λ h v c k. refuted lu (omega (arith, ld)) v c (sym (ap (Both p) (shape2 v)) ∙ k);
       }
     where
-    next : (u i : ℕ) → suc (u + i) ≡ u + suc i
-    next u i = omega arith
-    refuted : ua a ≤ length ws → s .at < length (drop (ua a) ws) → (v : List ℕ) (c : C) → Both p (take (ua a) ws ++ (take (suc (s .at)) (drop (ua a) ws) ++ v)) ≡ Ok c → ⊥
-    refuted lu h v c k =
-        let tail = take (suc (s .at)) (drop (ua a) ws) ++ v in
-        then-by (P p (take (ua a) ws ++ tail)) _ c k (λ b q k.
-        let same : b ≡ a = same-ok b a (sym q ∙ G .local p ws a e tail) in
-        mapped-by (g b) (Q b (p + ua b) (drop (ua b) (take (ua a) ws ++ tail))) c k (λ d r _.
-        s .never h v d (sym (ap (Q a (p + ua a)) (drop-at (take (ua a) ws) tail (ua a) (front-length p ws a e))) ∙ subst (λ (z : A). Q z (p + ua z) (drop (ua z) (take (ua a) ws ++ tail)) ≡ Ok d) same r)))
+      next : (u i : ℕ) → suc (u + i) ≡ u + suc i
+      next u i = omega arith
+
+      refuted : ua a ≤ length ws → s .at < length (drop (ua a) ws) → (v : List ℕ) (c : C) → Both p (take (ua a) ws ++ (take (suc (s .at)) (drop (ua a) ws) ++ v)) ≡ Ok c → ⊥
+      refuted lu h v c k =
+          let tail = take (suc (s .at)) (drop (ua a) ws) ++ v in
+          then-by (P p (take (ua a) ws ++ tail)) _ c k (λ b q k.
+          let same : b ≡ a = same-ok b a (sym q ∙ G .local p ws a e tail) in
+          mapped-by (g b) (Q b (p + ua b) (drop (ua b) (take (ua a) ws ++ tail))) c k (λ d r _.
+          s .never h v d (sym (ap (Q a (p + ua a)) (drop-at (take (ua a) ws) tail (ua a) (front-length p ws a e))) ∙ subst (λ (z : A). Q z (p + ua z) (drop (ua z) (take (ua a) ws ++ tail)) ≡ Ok d) same r)))
 
   err-by : {X : Type 0} (p : ℕ) (ws : List ℕ) (r : Result A WordFault) (f : WordFault) → then r (λ a. mapped (g a) (Q a (p + ua a) (drop (ua a) ws))) ≡ Err f
-    → (r ≡ Err f → X) → ((a : A) → r ≡ Ok a → Q a (p + ua a) (drop (ua a) ws) ≡ Err f → X) → X
+      → (r ≡ Err f → X) → ((a : A) → r ≡ Ok a → Q a (p + ua a) (drop (ua a) ws) ≡ Err f → X) → X
   err-by p ws (Ok a) f e k h = h a refl (mapped-back (Q a (p + ua a) (drop (ua a) ws)) e)
     where
-    mapped-back : (r : Result B WordFault) → mapped (g a) r ≡ Err f → r ≡ Err f
-    mapped-back (Ok b) e = never-err f (g a b) e
-    mapped-back (Err d) e = cc
+      mapped-back : (r : Result B WordFault) → mapped (g a) r ≡ Err f → r ≡ Err f
+      mapped-back (Ok b) e = never-err f (g a b) e
+      mapped-back (Err d) e = cc
   err-by p ws (Err d) f e k h = k (cc)
 
   pub both-good : Good uc Both
