@@ -20,7 +20,7 @@ use Rattle.words.specs.Encoded.{count-word}
 use Rattle.words.proofs.Exact.{rows-exact as word-rows-exact, rows-back as word-rows-back}
 use Rattle.charts.specs.declared.fault.ChartFault.{ChartFault}
 use Rattle.charts.specs.declared.fault.ChartFault.the-variants.{Word, TooManyStates}
-use Rattle.charts.specs.Rows.{Row, size, total, rows-fit, within}
+use Rattle.charts.specs.Rows.{Row, size, total, rows-fit, in-layout, within}
 use Rattle.words.specs.Reading.{then}
 use Rattle.charts.specs.Reading.{read-rows, rows-words, row-words, read-whole, read-chart, overflow, sized, tested, check-chart}
 use Rattle.charts.specs.Encoding.{rows-encoded, encoded, Encodes, Read-one-way}
@@ -89,11 +89,26 @@ none-if-fits s p (x ∷ xs) h =
     let rest : (s + size x) + total xs ≤ 4096 = omega arith in
     cond-false (ltb 4096 (s + size x)) (Some p) (overflow (s + size x) (p + row-words x) xs) (le-ltb 4096 (s + size x) small) ∙ none-if-fits (s + size x) (p + row-words x) xs rest
 
--- the tests that make up the limits
+-- the tests that make up the layout and the limits
+pub layout : (xs : List Row) → 1 ≤ length xs → length xs ≤ 256 → rows-fit (length xs) xs ≡ true → in-layout xs ≡ true
+unfolding in-layout
+layout xs some few h = and-from _ _ (and-from _ _ (le-leb 1 (length xs) some) (le-leb (length xs) 256 few)) h
+
+pub record Layout (xs : List Row) : Type 0 where
+  pub some : 1 ≤ length xs
+  pub few : length xs ≤ 256
+  pub fits : rows-fit (length xs) xs ≡ true
+
+pub layout-of : (xs : List Row) → in-layout xs ≡ true → Layout xs
+unfolding in-layout
+layout-of xs h =
+    let a = and-parts (leb 1 (length xs) && leb (length xs) 256) (rows-fit (length xs) xs) h in
+    let b = and-parts (leb 1 (length xs)) (leb (length xs) 256) (a .0) in
+    record { some = leb-true 1 (length xs) (b .0); few = leb-true (length xs) 256 (b .1); fits = a .1 }
+
 pub limits : (xs : List Row) → 1 ≤ length xs → length xs ≤ 256 → rows-fit (length xs) xs ≡ true → total xs ≤ 4096 → within xs ≡ true
 unfolding within
-limits xs some few h small =
-    and-from _ _ (and-from _ _ (le-leb 1 (length xs) some) (le-leb (length xs) 256 few)) (and-from _ _ h (le-leb (total xs) 4096 small))
+limits xs some few h small = and-from _ _ (layout xs some few h) (le-leb (total xs) 4096 small)
 
 pub record Limits (xs : List Row) : Type 0 where
   pub some : 1 ≤ length xs
@@ -104,10 +119,9 @@ pub record Limits (xs : List Row) : Type 0 where
 pub limits-of : (xs : List Row) → within xs ≡ true → Limits xs
 unfolding within
 limits-of xs h =
-    let a = and-parts (leb 1 (length xs) && leb (length xs) 256) (rows-fit (length xs) xs && leb (total xs) 4096) h in
-    let b = and-parts (leb 1 (length xs)) (leb (length xs) 256) (a .0) in
-    let c = and-parts (rows-fit (length xs) xs) (leb (total xs) 4096) (a .1) in
-    record { some = leb-true 1 (length xs) (b .0); few = leb-true (length xs) 256 (b .1); fits = c .0; small = leb-true (total xs) 4096 (c .1) }
+    let a = and-parts (in-layout xs) (leb (total xs) 4096) h in
+    let l = layout-of xs (a .0) in
+    record { some = l .some; few = l .few; fits = l .fits; small = leb-true (total xs) 4096 (a .1) }
 
 sized-ok : (xs ys : List Row) (o : Option ℕ) → sized xs o ≡ Ok ys → (o ≡ None) × (xs ≡ ys)
 sized-ok xs ys None e = (refl, same-ok xs ys e)

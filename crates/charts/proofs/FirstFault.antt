@@ -15,7 +15,7 @@ use Rattle.std.specs.declared.option.Option.the-variants.{Some, None}
 use Rattle.std.specs.declared.result.Result.{Result}
 use Rattle.std.specs.declared.result.Result.the-variants.{Ok, Err}
 use Rattle.std.proofs.shelf.Tests.{cond-true, cond-false, cases-bool, ltb-true, ltb-false, eqb-true, eqb-false, le-ltb}
-use Rattle.std.proofs.shelf.Lists.{append-nil, append-assoc, length-append, take-at, length-take-le}
+use Rattle.std.proofs.shelf.Lists.{append-nil, append-assoc, length-append, take-at, take-all, take-append-drop, length-take-le}
 use Rattle.words.specs.declared.fault.WordFault.{WordFault}
 use Rattle.words.specs.declared.fault.WordFault.the-variants.{Length, Form, Range}
 use Rattle.words.specs.Faults.{fault-place}
@@ -28,12 +28,12 @@ use Rattle.words.proofs.Results.{never-ok, same-ok, then-by, mapped-by}
 use Rattle.words.proofs.Readers.{Ends, Stops, Good, one-word, goes-beyond, words-beyond, never-err}
 use Rattle.charts.specs.declared.fault.ChartFault.{ChartFault}
 use Rattle.charts.specs.declared.fault.ChartFault.the-variants.{Word, TooManyStates}
-use Rattle.charts.specs.Rows.{Row, size, total, rows-fit}
+use Rattle.charts.specs.Rows.{Row, size, total, rows-fit, in-layout}
 use Rattle.charts.specs.Reading.{read-rows, row-words, rows-words, read-whole, read-chart, overflow, sized, tested, check-chart}
 use Rattle.charts.specs.Encoding.{rows-encoded, encoded}
-use Rattle.charts.specs.Refusals.{Layout, Begins-chart, Is-chart, First-fault, Passes-limit, Refused-for}
+use Rattle.charts.specs.Refusals.{Begins-chart, Is-chart, First-fault, Passes-limit, Word-fault, Length-fault, Refused-for}
 use Rattle.charts.proofs.Exact.{Rows-read, rows-exactly, rows-length, rows-back}
-use Rattle.charts.proofs.Accepted.{Whole, whole-exactly}
+use Rattle.charts.proofs.Accepted.{Whole, whole-exactly, layout, layout-of}
 use Rattle.charts.proofs.ChartReader.{chart-words, chart-reader, chart-good}
 
 -- what is read is a chart's words, and a chart's words are read
@@ -42,14 +42,14 @@ encoded-length : (xs : List Row) → length (encoded xs) ≡ chart-words xs
 encoded-length xs = ap suc (rows-length xs) ∙ sym (one-add (rows-words xs))
 
 pub record Chart-read (ws : List ℕ) (xs : List Row) : Type 0 where
-  pub layout : Layout xs
+  pub layout : in-layout xs ≡ true
   pub words : take (chart-words xs) ws ≡ encoded xs
 
 read-from : (n w : ℕ) (ws : List ℕ) (xs : List Row) → count-word 12 n ≡ w → 1 ≤ n → n ≤ 256 → Rows-read n n ws xs → Chart-read (w ∷ ws) xs
 read-from n w ws xs e l m r =
     let front : take (rows-words xs) ws ≡ rows-encoded xs = ap (take (rows-words xs)) (r .words) ∙ take-at (rows-encoded xs) _ (rows-words xs) (rows-length xs) in
     record {
-      layout = record { some = omega (arith, r .count); few = omega (arith, r .count); fits = subst (λ k. rows-fit k xs ≡ true) (sym (r .count)) (r .fits) };
+      layout = layout xs (omega (arith, r .count)) (omega (arith, r .count)) (subst (λ k. rows-fit k xs ≡ true) (sym (r .count)) (r .fits));
       words = ap (λ j. take j (w ∷ ws)) (one-add (rows-words xs)) ∙ ap₂ _∷_ (sym e ∙ ap (count-word 12) (sym (r .count))) front;
     }
 
@@ -61,14 +61,15 @@ chart-exact (w ∷ ws) xs e =
     let x = word-rows-exact 0 w n a in
     subst (λ (z : List Row). Chart-read (w ∷ ws) z) e (read-from n w ws v (x .0) (x .1 .0) (x .1 .1) (rows-exactly n 1 n ws v b))))
 
-pub chart-back : (xs : List Row) → Layout xs → chart-reader 0 (encoded xs) ≡ Ok xs
-chart-back xs l =
+pub chart-back : (xs : List Row) → in-layout xs ≡ true → chart-reader 0 (encoded xs) ≡ Ok xs
+chart-back xs h =
+    let l = layout-of xs h in
     let n = length xs in
     let b = ap (read-rows n 1 n) (sym (append-nil (rows-encoded xs))) ∙ rows-back n 1 xs [] (l .few) (l .fits) in
     ap (λ r. then r (λ n. mapped (λ v. v) (read-rows n 1 n (rows-encoded xs)))) (word-rows-back 0 n (l .some, l .few)) ∙ ap (mapped (λ v. v)) b
 
 -- the first words of a chart begin it
-begins : (ws : List ℕ) (xs : List Row) (v : List ℕ) → Layout xs → encoded xs ≡ ws ++ v → Begins-chart ws
+begins : (ws : List ℕ) (xs : List Row) (v : List ℕ) → in-layout xs ≡ true → encoded xs ≡ ws ++ v → Begins-chart ws
 begins ws xs v l e = record { rows = xs; layout = l; rest = v; words = e }
 
 -- a word at fault
@@ -84,16 +85,30 @@ stops-first ws f e s =
 place-is : (ws : List ℕ) (f : WordFault) (s : Stops chart-reader 0 ws f) → fault-place f ≡ s .at
 place-is ws f s = s .place ∙ (omega arith)
 
+-- where the words before the fault are a whole chart's, there were none
+no-chart : (ws : List ℕ) (f : WordFault) (p : ℕ) → chart-reader 0 ws ≡ Err f → Is-chart (take p ws) → ⊥
+no-chart ws f p e c =
+    let ys = c .rows in
+    let all : take (chart-words ys) (encoded ys) ≡ encoded ys = take-all (chart-words ys) (encoded ys) (omega (arith, encoded-length ys)) in
+    let here : chart-reader 0 (take p ws ++ drop p ws) ≡ Ok ys
+    = ap (λ v. chart-reader 0 (v ++ drop p ws)) (sym (c .words) ∙ sym all) ∙ chart-good .local 0 (encoded ys) ys (chart-back ys (c .layout)) (drop p ws) in
+    never-ok f ys (sym e ∙ ap (chart-reader 0) (sym (take-append-drop p ws)) ∙ here)
+
+bad-word : (ws : List ℕ) (f : WordFault) (p : ℕ) → length ws ≤ longest → chart-reader 0 ws ≡ Err f → (s : Stops chart-reader 0 ws f) → p ≡ s .at → s .at < length ws → Word-fault ws p
+bad-word ws f p l e s q h =
+    record { short = l; first = subst (First-fault ws) (sym q) (stops-first ws f e s); inside = subst (λ j. j < length ws) (sym q) h; due = no-chart ws f p e }
+
 reader-refuses : (ws : List ℕ) (f : WordFault) → length ws ≤ longest → chart-reader 0 ws ≡ Err f → (s : Stops chart-reader 0 ws f) → Refused-for ws (Word f)
 reader-refuses ws (Length p) l e s =
     let q = place-is ws (Length p) s in
-    inr (l, subst (First-fault ws) (sym q) (stops-first ws (Length p) e s), inl (q ∙ s .ends))
-reader-refuses ws (Form p) l e s =
-    let q = place-is ws (Form p) s in
-    (l, subst (First-fault ws) (sym q) (stops-first ws (Form p) e s), subst (λ j. j < length ws) (sym q) (s .ends))
-reader-refuses ws (Range p) l e s =
-    let q = place-is ws (Range p) s in
-    (l, subst (First-fault ws) (sym q) (stops-first ws (Range p) e s), subst (λ j. j < length ws) (sym q) (s .ends))
+    let whole : take (length ws) ws ≡ ws = take-all (length ws) ws (omega arith) in
+    inr (record {
+      short = l;
+      first = subst (First-fault ws) (sym q) (stops-first ws (Length p) e s);
+      which = inl (q ∙ s .ends, λ c. no-chart ws (Length p) (length ws) e (subst (λ (v : List ℕ). Is-chart v) (sym whole) c));
+    })
+reader-refuses ws (Form p) l e s = bad-word ws (Form p) p l e s (place-is ws (Form p) s) (s .ends)
+reader-refuses ws (Range p) l e s = bad-word ws (Range p) p l e s (place-is ws (Range p) s) (s .ends)
 
 -- words left over behind a chart's
 left-over : (ws : List ℕ) (xs : List Row) → chart-reader 0 ws ≡ Ok xs → chart-words xs < length ws → First-fault ws (chart-words xs) × Is-chart (take (chart-words xs) ws)
@@ -156,8 +171,8 @@ whole-refuses ws f l e =
           let n : chart-words xs ≡ suc (rows-words xs) = one-add (rows-words xs) in
           let h : chart-words xs < length ws = below xs (q .1) (q .2) in
           let r = left-over ws xs (q .1) h in
-          let at = subst (λ j. First-fault ws j × Is-chart (take j ws)) n r in
-          subst (λ (g : WordFault). Refused-for ws (Word g)) (sym (q .3)) (inr (l, at .0, inr (at .1))))
+          let at = subst (λ j. First-fault ws j × Is-chart (take j ws) × (j < length ws)) n (r .0, r .1, h) in
+          subst (λ (g : WordFault). Refused-for ws (Word g)) (sym (q .3)) (inr (record { short = l; first = at .0; which = inr (at .2, at .1) })))
     ]
   where
     below : (xs : List Row) → chart-reader 0 ws ≡ Ok xs → (suc (rows-words xs) ≡ length ws → ⊥) → chart-words xs < length ws
@@ -202,7 +217,7 @@ limit-refuses ws xs q l w e =
       l,
       record {
         rows = xs;
-        layout = record { some = w .some; few = w .few; fits = w .fits };
+        layout = layout xs (w .some) (w .few) (w .fits);
         words = w .words;
         r = r .r;
         inside = r .inside;

@@ -154,6 +154,7 @@ module _ (xs : List Row) (limits : Limits xs) (s : ℕ) (inside : s < total xs) 
 
   -- the law of arrivals: an offer to a row of the chart arrives at a state
   arrival-inside : (o : Offer) → o .row < n → arrival xs o < total xs
+  unfolding arrival
   arrival-inside o h = first-inside (o .row) h
 
   pub offer-at : (k : ℕ) → k < length (row .offers) → getD (map (offer-move xs) (row .offers)) k no-move ≡ offer-move xs (getD (row .offers) k no-offer)

@@ -13,7 +13,7 @@ use Rattle.std.specs.Results.{isOk}
 use Rattle.charts.specs.declared.fault.ChartFault.{ChartFault}
 use Rattle.charts.specs.declared.row.Stay.the-variants.{Endless}
 use Rattle.charts.specs.declared.tables.Tables.{Tables}
-use Rattle.charts.specs.Rows.{Row, total, within, rows-fit, offers-fit}
+use Rattle.charts.specs.Rows.{Row, total, in-layout, within, rows-fit, offers-fit}
 use Rattle.charts.specs.Encoding.{Encodes, Chart-file}
 use Rattle.words.specs.Reading.{mapped}
 use Rattle.charts.specs.Reading.{check-chart}
@@ -62,5 +62,5 @@ resting-held t u r o n e s k =
     }
 
 pub resting-within : within resting ≡ true
-unfolding within rows-fit offers-fit total
+unfolding within in-layout rows-fit offers-fit total
 resting-within = refl

@@ -11,7 +11,7 @@ use Rattle.charts.specs.declared.row.Offer.{Offer}
 use Rattle.charts.specs.Rows.{Row, seconds, total, row-at, first, row-of, second-of}
 
 -- the state at which an offer arrives: the first one of its row
-abbrev pub arrival : List Row → Offer → ℕ
+unfoldable pub arrival : List Row → Offer → ℕ
 arrival xs o = first xs (o .row)
 
 abbrev pub offer-move : List Row → Offer → Move ℕ

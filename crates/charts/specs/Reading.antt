@@ -1,5 +1,5 @@
 -- How the words of a chart file are read, from the front: what they are, or the first word at fault.
-use mathlib.Core.Bool.{cond, not, _&&_}
+use mathlib.Core.Bool.{cond, _&&_}
 use mathlib.Core.List.{List, [], _∷_}
 use Prim.Native.Nat.{ℕ, zero, suc, _+_}
 use lib.Dec.{ltb, eqb}
@@ -8,10 +8,10 @@ use Rattle.std.specs.declared.option.Option.{Option}
 use Rattle.std.specs.declared.option.Option.the-variants.{Some, None}
 use Rattle.std.specs.declared.result.Result.{Result}
 use Rattle.std.specs.declared.result.Result.the-variants.{Ok, Err}
-use Rattle.lts.specs.declared.source.Move.{Move}
 use Rattle.lts.specs.Labels.{visible}
+use Rattle.lts.specs.Meaning.{most-states}
 use Rattle.words.specs.declared.fault.WordFault.{WordFault}
-use Rattle.words.specs.declared.fault.WordFault.the-variants.{Length, Form, Range}
+use Rattle.words.specs.declared.fault.WordFault.the-variants.{Length, Range}
 use Rattle.words.specs.declared.word.RowHead.{RowHead}
 use Rattle.words.specs.declared.word.RowHead.the-variants.{Dwell, Endless as EndlessHead}
 use Rattle.words.specs.Reading.{then, mapped}
@@ -22,7 +22,7 @@ use Rattle.charts.specs.declared.row.Stay.the-variants.{Finite, Endless}
 use Rattle.charts.specs.declared.row.Offer.{Offer}
 use Rattle.charts.specs.declared.fault.ChartFault.{ChartFault}
 use Rattle.charts.specs.declared.fault.ChartFault.the-variants.{Word, TooManyStates}
-use Rattle.charts.specs.Rows.{Row, size, stay-words}
+use Rattle.charts.specs.Rows.{Row, size, stay-words, words-with}
 
 -- a word B as a timeout: the label τ, and a row below n
 abbrev pub timeout-in : ℕ → ℕ → ℕ → Result ℕ WordFault
@@ -64,7 +64,7 @@ read-row n p ws =
 
 -- how many words a row takes, and a list of rows
 abbrev pub row-words : Row → ℕ
-row-words x = stay-words (x .stay) + 1 + length (x .offers)
+row-words x = words-with (x .stay) (length (x .offers))
 
 unfoldable pub rows-words : List Row → ℕ
 rows-words [] = 0
@@ -89,7 +89,7 @@ read-chart ws = cond (ltb longest (length ws)) (Err (Length longest)) (read-whol
 -- the place of the first row, from p on, with which the states, s before it, are over 4,096
 unfoldable pub overflow : ℕ → ℕ → List Row → Option ℕ
 overflow s p [] = None
-overflow s p (x ∷ xs) = cond (ltb 4096 (s + size x)) (Some p) (overflow (s + size x) (p + row-words x) xs)
+overflow s p (x ∷ xs) = cond (ltb most-states (s + size x)) (Some p) (overflow (s + size x) (p + row-words x) xs)
 
 -- what is left to test of the rows that were read: that they have at most 4,096 states
 abbrev pub sized : List Row → Option ℕ → Result (List Row) ChartFault

@@ -1,12 +1,12 @@
 -- What a chart is: a list of rows, in each of which the controller stays for a while.
-use mathlib.Core.Path.{_≡_}
 use mathlib.Core.Bool.{Bool, true, cond, _&&_}
 use mathlib.Core.List.{List, [], _∷_}
-use Prim.Native.Nat.{ℕ, zero, suc, _+_, _-_, _*_, _/_, _^_}
-use lib.Dec.{ltb, leb, eqb}
+use Prim.Native.Nat.{ℕ, zero, suc, _+_, _-_, _/_}
+use lib.Dec.{ltb, leb}
 use lib.ListN.{length, getD}
 use Rattle.lts.specs.Labels.{visible}
-use Rattle.words.specs.Words.{most-tenths}
+use Rattle.lts.specs.Meaning.{most-states}
+use Rattle.words.specs.Words.{most-tenths, most-rows, most-offers}
 use Rattle.charts.specs.declared.row.Stay.{Stay}
 use Rattle.charts.specs.declared.row.Stay.the-variants.{Finite, Endless}
 use Rattle.charts.specs.declared.row.Offer.{Offer}
@@ -28,6 +28,10 @@ last-second Endless = 0
 abbrev pub stay-words : Stay → ℕ
 stay-words (Finite d t) = 2
 stay-words Endless = 1
+
+-- how many words a row takes that has so many offers: F comes between
+abbrev pub words-with : Stay → ℕ → ℕ
+words-with st k = stay-words st + 1 + k
 
 -- how many states a row has, and a list of rows
 abbrev pub stay-states : Stay → ℕ
@@ -70,12 +74,16 @@ offers-fit n [] = true
 offers-fit n (o ∷ os) = offer-fits n o && offers-fit n os
 
 abbrev pub row-fits : ℕ → Row → Bool
-row-fits n x = stay-fits n (x .stay) && (leb (length (x .offers)) 62 && offers-fit n (x .offers))
+row-fits n x = stay-fits n (x .stay) && (leb (length (x .offers)) most-offers && offers-fit n (x .offers))
 
 unfoldable pub rows-fit : ℕ → List Row → Bool
 rows-fit n [] = true
 rows-fit n (x ∷ xs) = row-fits n x && rows-fit n xs
 
--- a chart within the limits: 1 to 256 rows, each in range, and at most 4,096 states
+-- a chart's layout: 1 to 256 rows, each in range
+unfoldable pub in-layout : List Row → Bool
+in-layout xs = (leb 1 (length xs) && leb (length xs) most-rows) && rows-fit (length xs) xs
+
+-- and within the limits: at most 4,096 states
 unfoldable pub within : List Row → Bool
-within xs = (leb 1 (length xs) && leb (length xs) 256) && (rows-fit (length xs) xs && leb (total xs) 4096)
+within xs = in-layout xs && leb (total xs) most-states

@@ -6,6 +6,8 @@ use lib.ListN.{length, take, drop, replicate}
 use Rattle.std.specs.Of.Vec.{vec-items, vec-cap}
 use Rattle.std.specs.declared.result.Result.{Result}
 use Rattle.std.specs.declared.result.Result.the-variants.{Ok, Err}
+use Rattle.lts.specs.Meaning.{most-states}
+use Rattle.words.specs.Words.{most-rows}
 use Rattle.words.specs.Bytes.{longest}
 use Rattle.charts.specs.declared.row.Offer.{Offer}
 use Rattle.charts.specs.declared.tables.RowEntry.{RowEntry}
@@ -75,6 +77,6 @@ pub record Held (t : Tables) (xs : List Row) : Type 0 where
 
 -- room for every chart
 pub record Room (t : Tables) : Type 0 where
-  pub rows : 256 ≤ vec-cap (t .rows)
+  pub rows : most-rows ≤ vec-cap (t .rows)
   pub offers : longest ≤ vec-cap (t .offers)
-  pub owners : 4096 ≤ vec-cap (t .owners)
+  pub owners : most-states ≤ vec-cap (t .owners)

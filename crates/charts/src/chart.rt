@@ -2,6 +2,8 @@ ghost use mathlib.Core.Path.{_≡_};
 ghost use mathlib.Core.Bool.{true};
 ghost use Prim.Native.Nat.{_≤_};
 ghost use Rattle.std.specs.Of.Vec.{vec-items, vec-cap};
+ghost use Rattle.lts.specs.Meaning.{most-states};
+ghost use Rattle.words.specs.Words.{most-rows};
 ghost use Rattle.words.specs.Bytes.{longest};
 ghost use Rattle.charts.specs.Rows.{within};
 ghost use Rattle.charts.specs.Tables.{table-rows, entry-firsts, entry-counts, firsts, offer-counts, owners};
@@ -22,9 +24,9 @@ pub struct Chart {
     // The rows are a chart within the limits.
     ghost limits: { within (table-rows tables) ≡ true },
     // There is room for every other chart.
-    ghost row_room: { 256 ≤ vec-cap (tables .rows) },
+    ghost row_room: { most-rows ≤ vec-cap (tables .rows) },
     ghost offer_room: { longest ≤ vec-cap (tables .offers) },
-    ghost owner_room: { 4096 ≤ vec-cap (tables .owners) },
+    ghost owner_room: { most-states ≤ vec-cap (tables .owners) },
 }
 
 impl Chart {

@@ -19,9 +19,7 @@ use lts::MOST_STATES;
 use std::alloc::AllocError;
 use std::alloc::Global;
 use words::LONGEST;
-
-// The most rows that a chart may have.
-const MOST_ROWS: usize = 256;
+use words::MOST_ROWS;
 
 // One row: its first state, and where its offers stand among all offers.
 #[derive(Clone, Copy)]
@@ -47,7 +45,7 @@ impl Tables {
         ensures { λ r. ⌜ made r (λ t. Room t × (vec-items (t .rows) ≡ []) × (vec-items (t .offers) ≡ []) × (vec-items (t .owners) ≡ [])) ⌝ }
     {
         Ok(Tables {
-            rows: Vec::with_capacity(heap, MOST_ROWS)?,
+            rows: Vec::with_capacity(heap, MOST_ROWS as usize)?,
             offers: Vec::with_capacity(heap, LONGEST)?,
             owners: Vec::with_capacity(heap, MOST_STATES as usize)?,
         })
@@ -94,8 +92,9 @@ impl Tables {
             offers: row.offers,
         });
         let states = first + row.stay.states() as usize;
-        // There is room, so this does not fail.
-        let _ = self.owners.resize(states, number);
+        let Ok(()) = self.owners.resize(states, number) else {
+            unreachable();
+        };
     }
 
     // Adds the rows that `words` begins with, which were read before.

@@ -10,7 +10,7 @@ use Rattle.std.specs.declared.result.Result.{Result}
 use Rattle.std.specs.declared.result.Result.the-variants.{Ok, Err}
 use Rattle.lts.specs.declared.source.Move.{Move}
 use Rattle.lts.specs.declared.source.OutOfRange.{OutOfRange}
-use Rattle.lts.specs.Meaning.{Meaning, label-at, target-at}
+use Rattle.lts.specs.Meaning.{Meaning}
 
 -- the number of the one refusal
 abbrev pub range-code : ℕ

@@ -6,6 +6,7 @@ use Rattle.std.specs.declared.result.Result.{Result}
 use Rattle.std.specs.declared.result.Result.the-variants.{Ok, Err}
 use Rattle.lts.specs.declared.source.Move.{Move}
 use Rattle.lts.specs.Labels.{label}
+use Rattle.lts.specs.Meaning.{most-states, most-moves}
 use Rattle.words.specs.declared.fault.WordFault.{WordFault}
 use Rattle.words.specs.declared.fault.WordFault.the-variants.{Form, Range}
 use Rattle.words.specs.declared.word.RowHead.{RowHead}
@@ -32,16 +33,23 @@ abbrev pub definitions-in : ℕ → ℕ → Result ℕ WordFault
 definitions-in = counted 8 0 256
 
 abbrev pub states-in : ℕ → ℕ → Result ℕ WordFault
-states-in = counted 9 1 4096
+states-in = counted 9 1 most-states
 
 abbrev pub moves-in : ℕ → ℕ → Result ℕ WordFault
-moves-in = counted 10 1 64
+moves-in = counted 10 1 most-moves
+
+-- the most rows of a chart, and the most offers of a row
+abbrev pub most-rows : ℕ
+most-rows = 256
+
+abbrev pub most-offers : ℕ
+most-offers = 62
 
 abbrev pub rows-in : ℕ → ℕ → Result ℕ WordFault
-rows-in = counted 12 1 256
+rows-in = counted 12 1 most-rows
 
 abbrev pub offers-in : ℕ → ℕ → Result ℕ WordFault
-offers-in = counted 15 0 62
+offers-in = counted 15 0 most-offers
 
 -- a move: a label above a target
 abbrev pub arrow-in : ℕ → ℕ → Result (Move ℕ) WordFault

@@ -13,6 +13,7 @@ pub use file::WordFile;
 pub use operators::operator;
 pub use term::Delay;
 pub use term::Operator;
+pub use word::MOST_ROWS;
 pub use word::MOST_TENTHS;
 pub use word::RowHead;
 pub use word::Word;

@@ -10,6 +10,7 @@ use crate::operators::operator;
 use crate::term::Operator;
 use crate::term::OperatorDebug;
 use crate::term::OperatorPartialEq;
+use lts::MOST_STATES;
 use lts::Move;
 use lts::is_label;
 use lts::source::MoveDebug;
@@ -17,6 +18,9 @@ use lts::source::MovePartialEq;
 
 // The longest dwell of a chart's row, in tenths of a second.
 pub const MOST_TENTHS: u32 = 40_959;
+
+// The most rows of a chart.
+pub const MOST_ROWS: u32 = 256;
 
 // The head of a chart's row: its dwell in tenths of a second, or that it does
 // not end.
@@ -64,7 +68,7 @@ pub fn definitions(word: u32, place: usize) -> Result<u32, WordFault>
 pub fn states(word: u32, place: usize) -> Result<u32, WordFault>
     ensures { λ r. ⌜ r ≡ states-in place word ⌝ }
 {
-    counted(word, place, 9, 1, 4096)
+    counted(word, place, 9, 1, MOST_STATES)
 }
 
 // The number of moves of a state.
@@ -78,7 +82,7 @@ pub fn moves(word: u32, place: usize) -> Result<u32, WordFault>
 pub fn rows(word: u32, place: usize) -> Result<u32, WordFault>
     ensures { λ r. ⌜ r ≡ rows-in place word ⌝ }
 {
-    counted(word, place, 12, 1, 256)
+    counted(word, place, 12, 1, MOST_ROWS)
 }
 
 // The number of offers of a row.
@@ -146,11 +150,9 @@ pub fn decode(word: u32, place: usize) -> Result<Word, WordFault>
 
 // Nothing to run: a word that is not refused is the word of what it says, and
 // whatever is in range is said by its own word.
-pub fn decoding_is_exact() -> u8
+pub fn decoding_is_exact()
     ensures { λ _. ⌜ Decoding-is-exact ⌝ }
-{
-    0
-}
+{}
 
 #[cfg(test)]
 mod tests {
