@@ -1,6 +1,7 @@
 -- The reader of charts is put together from readers whose faults name the first word at fault.
 use mathlib.Core.Path.{_≡_, refl, sym, ap, subst, _∙_}
 use mathlib.Core.Bool.{Bool, true, false, cond, _&&_}
+use mathlib.Core.Logic.{_⊎_, inl, inr}
 use mathlib.Core.List.{List, [], _∷_, _++_}
 use Prim.Native.Nat.{ℕ, zero, suc, _+_, _/_, _^_, _<_, _≤_}
 use native.Mathlib.Omega.{arith}
@@ -8,7 +9,8 @@ use lib.Dec.{eqb, ltb, leb}
 use lib.ListN.{length, drop}
 use Rattle.std.specs.declared.result.Result.{Result}
 use Rattle.std.specs.declared.result.Result.the-variants.{Ok, Err}
-use Rattle.std.proofs.shelf.Tests.{lt-ltb, and-from}
+use Rattle.std.proofs.shelf.Tests.{lt-ltb, and-from, eqb-true, eqb-false, eq-eqb, ne-eqb, cases-eq, cond-true, cond-false}
+use Rattle.std.proofs.shelf.Ways.{tells}
 use Rattle.std.proofs.shelf.Lists.{drop-drop}
 use Rattle.lts.specs.declared.source.Move.{Move}
 use Rattle.lts.specs.Labels.{label, visible}
@@ -17,11 +19,11 @@ use Rattle.words.specs.declared.fault.WordFault.the-variants.{Length, Form, Ran
 use Rattle.words.specs.declared.word.RowHead.{RowHead}
 use Rattle.words.specs.declared.word.RowHead.the-variants.{Dwell, Endless as EndlessHead}
 use Rattle.words.specs.Reading.{then, mapped}
-use Rattle.words.specs.Words.{kind, payload, check, counted, most-tenths, arrow-in, row-in, offers-in, rows-in}
-use Rattle.words.specs.Encoded.{arrow-word, row-word, count-word}
-use Rattle.words.proofs.Exact.{row-back, offers-back as word-offers-back, rows-exact as word-rows-exact, rows-back as word-rows-back}
-use Rattle.words.proofs.Results.{never-ok}
-use Rattle.words.proofs.Readers.{Reader, Bad, Good, one-word, word-good, nothing, named-good, Both, both-good, same-good, never-err}
+use Rattle.words.specs.Words.{kind, payload, unused-bit, check, counted, most-tenths, arrow-in, row-in, offers-in, rows-in}
+use Rattle.words.specs.Encoded.{Row-fits, arrow-word, row-word, count-word}
+use Rattle.words.proofs.Exact.{arrow-exact, arrow-kind, row-exact, row-back, offers-exact as word-offers-exact, offers-back as word-offers-back, rows-exact as word-rows-exact, rows-back as word-rows-back}
+use Rattle.words.proofs.Results.{never-ok, then-by}
+use Rattle.words.proofs.Readers.{Reader, Bad, Why, Good, one-word, word-good, nothing, named-good, Both, both-good, same-good, never-err}
 use Rattle.charts.specs.declared.row.Stay.{Stay}
 use Rattle.charts.specs.declared.row.Stay.the-variants.{Finite, Endless}
 use Rattle.charts.specs.declared.row.Offer.{Offer}
@@ -76,6 +78,138 @@ timeout-bad n p w f = then-bad (arrow-in p w) _ f p (arrow-bad p w f) (λ m. con
 offer-bad : (n p w : ℕ) (f : WordFault) → offer-in n p w ≡ Err f → Bad f p
 offer-bad n p w f = then-bad (arrow-in p w) _ f p (arrow-bad p w f) (λ m. cond-bad (visible (m .label) && ltb (m .target) n) _ _ f p (ok-bad _ f p) (range-bad {A = Offer} p f))
 
+-- why a word is refused
+
+check-err : {A : Type 0} (b : Bool) (g f : WordFault) (r : Result A WordFault) → check b g r ≡ Err f → ((b ≡ false) × (g ≡ f)) ⊎ ((b ≡ true) × (r ≡ Err f))
+check-err true g f r e = inr (refl, e)
+check-err false g f r e = inl (refl, same-fault g f e)
+
+form-range : {X : Type 0} (p q : ℕ) → Form p ≡ Range q → X
+form-range p q e = absurd (let z : _≡_ {A = ℕ} 0 1 = cc in omega arith)
+
+then-err : {A B X : Type 0} (r : Result A WordFault) (k : A → Result B WordFault) (f : WordFault) → then r k ≡ Err f → (r ≡ Err f → X) → ((a : A) → r ≡ Ok a → k a ≡ Err f → X) → X
+then-err (Ok a) k f e h g = g a refl e
+then-err (Err d) k f e h g = h (ap (λ z. Err z) (same-fault d f e))
+
+cond-err : {A X : Type 0} (b : Bool) (a : A) (g f : WordFault) → cond b (Ok a) (Err g) ≡ Err f → (g ≡ f → X) → X
+cond-err true a g f e k = never-err f a e
+cond-err false a g f e k = k (same-fault g f e)
+
+counted-form : (due least most p w q : ℕ) → counted due least most p w ≡ Err (Form q) → kind w ≡ due → ⊥
+counted-form due least most p w q e k =
+    elim (check-err (eqb (kind w) due) (Form p) (Form q) _ e) [
+      | inl b ↦ eqb-false (kind w) due (b .0) k
+      | inr b ↦ elim (check-err (leb least (payload w) && leb (payload w) most) (Range p) (Form q) (Ok (payload w)) (b .1)) [ inl c ↦ form-range q p (sym (c .1)) | inr c ↦ never-err (Form q) (payload w) (c .1) ]
+    ]
+
+counted-range : (due least most p w q : ℕ) → counted due least most p w ≡ Err (Range q) → kind w ≡ due
+counted-range due least most p w q e = elim (check-err (eqb (kind w) due) (Form p) (Range q) _ e) [ inl b ↦ form-range p q (b .1) | inr b ↦ eqb-true (kind w) due (b .0) ]
+
+arrow-form : (p w q : ℕ) → arrow-in p w ≡ Err (Form q) → kind w ≡ 11 → ⊥
+arrow-form p w q e k =
+    elim (check-err (eqb (kind w) 11) (Form p) (Form q) _ e) [
+      | inl b ↦ eqb-false (kind w) 11 (b .0) k
+      | inr b ↦ elim (check-err (label (payload w / 2 ^ 20)) (Range p) (Form q) _ (b .1)) [ inl c ↦ form-range q p (sym (c .1)) | inr c ↦ never-err (Form q) _ (c .1) ]
+    ]
+
+arrow-range : (p w q : ℕ) → arrow-in p w ≡ Err (Range q) → kind w ≡ 11
+arrow-range p w q e = elim (check-err (eqb (kind w) 11) (Form p) (Range q) _ e) [ inl b ↦ form-range p q (b .1) | inr b ↦ eqb-true (kind w) 11 (b .0) ]
+
+arrow-ok : (p w : ℕ) (m : Move ℕ) → arrow-in p w ≡ Ok m → kind w ≡ 11
+arrow-ok p w m e = let x = arrow-exact p w m e in ap kind (sym (x .0)) ∙ arrow-kind m (x .1)
+
+timeout-form : (n p w q : ℕ) → timeout-in n p w ≡ Err (Form q) → kind w ≡ 11 → ⊥
+timeout-form n p w q e k =
+    then-err (arrow-in p w) _ (Form q) e (λ r. arrow-form p w q r k) (λ m r h. cond-err (eqb (m .label) 0 && ltb (m .target) n) (m .target) (Range p) (Form q) h (λ z. form-range q p (sym z)))
+
+timeout-range : (n p w q : ℕ) → timeout-in n p w ≡ Err (Range q) → kind w ≡ 11
+timeout-range n p w q e = then-err (arrow-in p w) _ (Range q) e (λ r. arrow-range p w q r) (λ m r h. arrow-ok p w m r)
+
+timeout-ok : (n p w t : ℕ) → timeout-in n p w ≡ Ok t → kind w ≡ 11
+timeout-ok n p w t e = then-by (arrow-in p w) _ t e (λ m r h. arrow-ok p w m r)
+
+offer-form : (n p w q : ℕ) → offer-in n p w ≡ Err (Form q) → kind w ≡ 11 → ⊥
+offer-form n p w q e k =
+    then-err (arrow-in p w) _ (Form q) e (λ r. arrow-form p w q r k) (λ m r h. cond-err (visible (m .label) && ltb (m .target) n) _ (Range p) (Form q) h (λ z. form-range q p (sym z)))
+
+offer-range : (n p w q : ℕ) → offer-in n p w ≡ Err (Range q) → kind w ≡ 11
+offer-range n p w q e = then-err (arrow-in p w) _ (Range q) e (λ r. arrow-range p w q r) (λ m r h. arrow-ok p w m r)
+
+offer-ok : (n p w : ℕ) (o : Offer) → offer-in n p w ≡ Ok o → kind w ≡ 11
+offer-ok n p w o e = then-by (arrow-in p w) _ o e (λ m r h. arrow-ok p w m r)
+
+-- where words of one kind, of which no bit is unused, are due
+module _ {A : Type 0} (W : ℕ → ℕ → Result A WordFault) (due : ℕ) (w₀ : ℕ) (a₀ : A) (good : (p : ℕ) → W p w₀ ≡ Ok a₀)
+    (ok : (p w : ℕ) (a : A) → W p w ≡ Ok a → kind w ≡ due) (form : (p w q : ℕ) → W p w ≡ Err (Form q) → kind w ≡ due → ⊥)
+    (range : (p w q : ℕ) → W p w ≡ Err (Range q) → kind w ≡ due) (used-all : (w : ℕ) → kind w ≡ due → unused-bit w ≡ false) where
+  one-kind : (p w : ℕ) (f : WordFault) → W p w ≡ Err f → Why (one-word W) p [] w f
+  one-kind p w (Length q) e = tt
+  one-kind p w (Form q) e = inl (λ o. form p w q e (sym (o .kinds) ∙ ok p (o .word) (o .some) (o .read)))
+  one-kind p w (Range q) e = (record { word = w₀; kinds = ok p w₀ a₀ (good p) ∙ sym (range p w q e); rest = []; some = a₀; read = good p }, used-all w (range p w q e))
+
+all-used-11 : (w : ℕ) → kind w ≡ 11 → unused-bit w ≡ false
+all-used-11 w k = grind (arith, tells)
+
+all-used-12 : (w : ℕ) → kind w ≡ 12 → unused-bit w ≡ false
+all-used-12 w k = grind (arith, tells)
+
+all-used-13 : (w : ℕ) → kind w ≡ 13 → unused-bit w ≡ false
+all-used-13 w k = grind (arith, tells)
+
+all-used-15 : (w : ℕ) → kind w ≡ 15 → unused-bit w ≡ false
+all-used-15 w k = grind (arith, tells)
+
+-- the head of a row is of the kind D or E
+row-ok : (h : RowHead) → Row-fits h → (kind (row-word h) ≡ 13) ⊎ (kind (row-word h) ≡ 14)
+row-ok (Dwell d) f = inl (omega arith)
+row-ok EndlessHead f = inr refl
+
+row-form : (p w q : ℕ) → row-in p w ≡ Err (Form q) → ((kind w ≡ 13) → ⊥) × ((kind w ≡ 14) → unused-bit w ≡ true)
+row-form p w q e = ((λ k. thirteen k), (λ k. fourteen k))
+  where
+    thirteen : kind w ≡ 13 → ⊥
+    thirteen k =
+        let a : check (leb (payload w) most-tenths) (Range p) (Ok (Dwell (payload w))) ≡ Err (Form q) = sym (cond-true (eqb (kind w) 13) _ _ (eq-eqb (kind w) 13 k)) ∙ e in
+        elim (check-err (leb (payload w) most-tenths) (Range p) (Form q) (Ok (Dwell (payload w))) a) [ inl c ↦ form-range q p (sym (c .1)) | inr c ↦ never-err (Form q) (Dwell (payload w)) (c .1) ]
+
+    fourteen : kind w ≡ 14 → unused-bit w ≡ true
+    fourteen k =
+        elim (cases-eq (payload w) 0) [
+          | inl z ↦ never-err (Form q) EndlessHead (sym (all-zero z) ∙ e)
+          | inr z ↦ grind (arith, tells)
+        ]
+      where
+        all-zero : payload w ≡ 0 → row-in p w ≡ Ok EndlessHead
+        all-zero z = grind (arith, tells)
+
+row-range : (p w q : ℕ) → row-in p w ≡ Err (Range q) → kind w ≡ 13
+row-range p w q e =
+    elim (cases-eq (kind w) 13) [
+      | inl k ↦ k
+      | inr k ↦ (let a : check (eqb (kind w) 14 && eqb (payload w) 0) (Form p) (Ok EndlessHead) ≡ Err (Range q) = sym (cond-false (eqb (kind w) 13) _ _ (ne-eqb (kind w) 13 k)) ∙ e in
+          elim (check-err (eqb (kind w) 14 && eqb (payload w) 0) (Form p) (Range q) (Ok EndlessHead) a) [ inl c ↦ form-range p q (c .1) | inr c ↦ never-err (Range q) EndlessHead (c .1) ])
+    ]
+
+row-why : (p w : ℕ) (f : WordFault) → row-in p w ≡ Err f → Why (one-word row-in) p [] w f
+row-why p w (Length q) e = tt
+row-why p w (Form q) e =
+    elim (cases-eq (kind w) 14) [
+      | inl k ↦ inr (row-form p w q e .1 k)
+      | inr k ↦ inl (λ o.
+          let x = row-exact p (o .word) (o .some) (o .read) in
+          let same = ap kind (x .0) ∙ o .kinds in
+          elim (row-ok (o .some) (x .1)) [ inl a ↦ row-form p w q e .0 (sym same ∙ a) | inr a ↦ k (sym same ∙ a) ])
+    ]
+row-why p w (Range q) e =
+    let k = row-range p w q e in
+    (record { word = row-word (Dwell 0); kinds = sym k; rest = []; some = Dwell 0; read = row-back p (Dwell 0) (omega arith) }, all-used-13 w k)
+
+rows-ok : (p w n : ℕ) → rows-in p w ≡ Ok n → kind w ≡ 12
+rows-ok p w n e = let x = word-rows-exact p w n e in let y = x .0 in let l = x .1 .1 in omega arith
+
+offers-ok : (p w n : ℕ) → offers-in p w ≡ Ok n → kind w ≡ 15
+offers-ok p w n e = let x = word-offers-exact p w n e in let y = x .0 in let l = x .1 in omega arith
+
 -- readings that are the same
 
 then-same : {A B : Type 0} (r : Result A WordFault) (f g : A → Result B WordFault) → ((a : A) → f a ≡ g a) → then r f ≡ then r g
@@ -93,14 +227,19 @@ mapped-then f (Err e) k = refl
 -- among n rows, 1 to 256
 module _ (n : ℕ) (some : 1 ≤ n) (few : n ≤ 256) where
   timeout-good : Good (λ (_ : ℕ). 1) (one-word (timeout-in n))
-  timeout-good = word-good (λ _. 1) (timeout-in n) (arrow-word (record { label = 0; target = 0 })) 0 (λ p. timeout-back n p 0 few (lt-ltb 0 n some)) (λ _. refl) (timeout-bad n)
+  timeout-good = word-good (λ _. 1) (timeout-in n) (arrow-word (record { label = 0; target = 0 })) 0 (λ p. timeout-back n p 0 few (lt-ltb 0 n some)) (λ _. refl) (timeout-bad n) (one-kind (timeout-in n) 11 (arrow-word (record { label = 0; target = 0 })) 0 (λ p. timeout-back n p 0 few (lt-ltb 0 n some)) (timeout-ok n) (timeout-form n) (timeout-range n) all-used-11)
 
   abbrev first-offer : Offer
   first-offer = record { label = 1; row = 0 }
 
-  offer-good : Good (λ (_ : Offer). 1) (one-word (offer-in n))
+  first-offer-read : (p : ℕ) → offer-in n p (offer-word first-offer) ≡ Ok first-offer
   unfolding visible
-  offer-good = word-good (λ _. 1) (offer-in n) (offer-word first-offer) first-offer (λ p. offer-back n p first-offer few (and-from (visible 1) (ltb 0 n) refl (lt-ltb 0 n some))) (λ _. refl) (offer-bad n)
+  first-offer-read p = offer-back n p first-offer few (and-from (visible 1) (ltb 0 n) refl (lt-ltb 0 n some))
+
+  offer-good : Good (λ (_ : Offer). 1) (one-word (offer-in n))
+  offer-good =
+      word-good (λ _. 1) (offer-in n) (offer-word first-offer) first-offer first-offer-read (λ _. refl) (offer-bad n)
+      (one-kind (offer-in n) 11 (offer-word first-offer) first-offer first-offer-read (offer-ok n) (offer-form n) (offer-range n) all-used-11)
 
   -- behind the head of a row
   behind : Stay → ℕ
@@ -138,7 +277,7 @@ module _ (n : ℕ) (some : 1 ≤ n) (few : n ≤ 256) where
   stay-good =
       same-good stay-words stay-reader (read-stay n) stay-same
       (both-good (λ _. 1) behind stay-words (λ h st. st) (one-word row-in) head-reader stay-uses
-      (word-good (λ _. 1) row-in (row-word EndlessHead) EndlessHead (λ p. row-back p EndlessHead tt) (λ _. refl) row-bad) (λ p ws h e. head-good h))
+      (word-good (λ _. 1) row-in (row-word EndlessHead) EndlessHead (λ p. row-back p EndlessHead tt) (λ _. refl) row-bad row-why) (λ p ws h e. head-good h))
 
   offers-good : (k : ℕ) → Good length (λ p ws. read-offers n p k ws)
   unfolding read-offers
@@ -160,7 +299,8 @@ module _ (n : ℕ) (some : 1 ≤ n) (few : n ≤ 256) where
   list-good : Good list-words list-reader
   list-good =
       both-good (λ _. 1) length list-words (λ k os. os) (one-word offers-in) (λ k p ws. read-offers n p k ws) (λ k os. refl)
-      (word-good (λ _. 1) offers-in (count-word 15 0) 0 (λ p. word-offers-back p 0 (omega arith)) (λ _. refl) (counted-bad 15 0 62)) (λ p ws k e. offers-good k)
+      (word-good (λ _. 1) offers-in (count-word 15 0) 0 (λ p. word-offers-back p 0 (omega arith)) (λ _. refl) (counted-bad 15 0 62)
+      (one-kind offers-in 15 (count-word 15 0) 0 (λ p. word-offers-back p 0 (omega arith)) offers-ok (counted-form 15 0 62) (counted-range 15 0 62) all-used-15)) (λ p ws k e. offers-good k)
 
   count-same : (p : ℕ) (ws : List ℕ) → one-word offers-in p ws ≡ read-count p ws
   count-same p [] = refl
@@ -203,5 +343,6 @@ count-range p (w ∷ ws) n e = word-rows-exact p w n e .1
 pub chart-good : Good chart-words chart-reader
 chart-good =
     both-good (λ _. 1) rows-words chart-words (λ n xs. xs) (one-word rows-in) (λ n p ws. read-rows n p n ws) (λ n xs. refl)
-    (word-good (λ _. 1) rows-in (count-word 12 1) 1 (λ p. word-rows-back p 1 (omega arith, omega arith)) (λ _. refl) (counted-bad 12 1 256))
+    (word-good (λ _. 1) rows-in (count-word 12 1) 1 (λ p. word-rows-back p 1 (omega arith, omega arith)) (λ _. refl) (counted-bad 12 1 256)
+    (one-kind rows-in 12 (count-word 12 1) 1 (λ p. word-rows-back p 1 (omega arith, omega arith)) rows-ok (counted-form 12 1 256) (counted-range 12 1 256) all-used-12))
     (λ p ws n e. rows-good n (count-range p ws n e .0) (count-range p ws n e .1) n)

@@ -8,7 +8,7 @@ use native.Mathlib.Omega.{arith}
 use native.Mathlib.Nat.{add-zero}
 use native.Mathlib.Numerals.{one-add}
 use lib.Dec.{eqb, ltb}
-use lib.ListN.{length, take, drop}
+use lib.ListN.{length, take, drop, getD}
 use lib.Seq.{take-add}
 use Rattle.std.specs.declared.option.Option.{Option}
 use Rattle.std.specs.declared.option.Option.the-variants.{Some, None}
@@ -21,17 +21,17 @@ use Rattle.words.specs.declared.fault.WordFault.the-variants.{Length, Form, Ran
 use Rattle.words.specs.Faults.{fault-place}
 use Rattle.words.specs.Bytes.{longest}
 use Rattle.words.specs.Reading.{then, mapped}
-use Rattle.words.specs.Words.{rows-in}
+use Rattle.words.specs.Words.{kind, unused-bit, rows-in}
 use Rattle.words.specs.Encoded.{count-word}
 use Rattle.words.proofs.Exact.{rows-exact as word-rows-exact, rows-back as word-rows-back}
 use Rattle.words.proofs.Results.{never-ok, same-ok, then-by, mapped-by}
-use Rattle.words.proofs.Readers.{Ends, Stops, Good, one-word, goes-beyond, words-beyond, never-err}
+use Rattle.words.proofs.Readers.{Stops, Good, Goes-on, words-beyond, word-beyond, never-err}
 use Rattle.charts.specs.declared.fault.ChartFault.{ChartFault}
 use Rattle.charts.specs.declared.fault.ChartFault.the-variants.{Word, TooManyStates}
 use Rattle.charts.specs.Rows.{Row, size, total, rows-fit, in-layout}
 use Rattle.charts.specs.Reading.{read-rows, row-words, rows-words, read-whole, read-chart, overflow, sized, tested, check-chart}
 use Rattle.charts.specs.Encoding.{rows-encoded, encoded}
-use Rattle.charts.specs.Refusals.{Begins-chart, Is-chart, First-fault, Passes-limit, Word-fault, Length-fault, Refused-for}
+use Rattle.charts.specs.Refusals.{Begins-chart, Is-chart, First-fault, Passes-limit, Word-fault, Length-fault, Kind-is-due, Refused-for}
 use Rattle.charts.proofs.Exact.{Rows-read, rows-exactly, rows-length, rows-back}
 use Rattle.charts.proofs.Accepted.{Whole, whole-exactly, layout, layout-of}
 use Rattle.charts.proofs.ChartReader.{chart-words, chart-reader, chart-good}
@@ -78,7 +78,7 @@ stops-first ws f e s =
     let r = chart-exact (take (s .at) ws ++ s .rest) (s .some) (s .more) in
     record {
       inside = s .within;
-      before = begins (take (s .at) ws) (s .some) _ (r .layout) (sym (r .words) ∙ words-beyond chart-words chart-reader chart-good 0 ws f e s);
+      before = begins (take (s .at) ws) (s .some) _ (r .layout) (sym (r .words) ∙ words-beyond chart-words chart-reader chart-good 0 ws f e (s .at) (s .within) (s .rest) (s .some) (s .more));
       there = λ h b. s .never h (b .rest) (b .rows) (ap (chart-reader 0) (sym (b .words)) ∙ chart-back (b .rows) (b .layout));
     }
 
@@ -94,6 +94,24 @@ no-chart ws f p e c =
     = ap (λ v. chart-reader 0 (v ++ drop p ws)) (sym (c .words) ∙ sym all) ∙ chart-good .local 0 (encoded ys) ys (chart-back ys (c .layout)) (drop p ws) in
     never-ok f ys (sym e ∙ ap (chart-reader 0) (sym (take-append-drop p ws)) ∙ here)
 
+-- a word of that kind can stand there in a chart exactly if the reader goes on with one
+due : (ws : List ℕ) (f : WordFault) → chart-reader 0 ws ≡ Err f → (at : ℕ) → at ≤ length ws → Goes-on chart-reader 0 (take at ws) (getD ws at 0) → Kind-is-due ws at
+due ws f e at h o =
+    let r = chart-exact (take at ws ++ (o .word ∷ o .rest)) (o .some) (o .read) in
+    let shape = sym (r .words) ∙ word-beyond chart-words chart-reader chart-good 0 ws f e at h o in
+    record { word = o .word; kinds = o .kinds; begins = begins (take at ws ++ (o .word ∷ [])) (o .some) _ (r .layout) (shape ∙ sym (append-assoc (take at ws) (o .word ∷ []) _)) }
+
+going : (ws : List ℕ) (at : ℕ) → Kind-is-due ws at → Goes-on chart-reader 0 (take at ws) (getD ws at 0)
+going ws at k =
+    let b = k .begins in
+    record {
+      word = k .word;
+      kinds = k .kinds;
+      rest = b .rest;
+      some = b .rows;
+      read = ap (chart-reader 0) (sym (append-assoc (take at ws) (k .word ∷ []) (b .rest)) ∙ sym (b .words)) ∙ chart-back (b .rows) (b .layout);
+    }
+
 bad-word : (ws : List ℕ) (f : WordFault) (p : ℕ) → length ws ≤ longest → chart-reader 0 ws ≡ Err f → (s : Stops chart-reader 0 ws f) → p ≡ s .at → s .at < length ws → Word-fault ws p
 bad-word ws f p l e s q h =
     record { short = l; first = subst (First-fault ws) (sym q) (stops-first ws f e s); inside = subst (λ j. j < length ws) (sym q) h; due = no-chart ws f p e }
@@ -107,8 +125,16 @@ reader-refuses ws (Length p) l e s =
       first = subst (First-fault ws) (sym q) (stops-first ws (Length p) e s);
       which = inl (q ∙ s .ends, λ c. no-chart ws (Length p) (length ws) e (subst (λ (v : List ℕ). Is-chart v) (sym whole) c));
     })
-reader-refuses ws (Form p) l e s = bad-word ws (Form p) p l e s (place-is ws (Form p) s) (s .ends)
-reader-refuses ws (Range p) l e s = bad-word ws (Range p) p l e s (place-is ws (Range p) s) (s .ends)
+reader-refuses ws (Form p) l e s =
+    let q = place-is ws (Form p) s in
+    (bad-word ws (Form p) p l e s q (s .ends), subst (λ j. (Kind-is-due ws j → ⊥) ⊎ (unused-bit (getD ws j 0) ≡ true)) (sym q) (by (s .why)))
+  where
+    by : ((Goes-on chart-reader 0 (take (s .at) ws) (getD ws (s .at) 0) → ⊥) ⊎ (unused-bit (getD ws (s .at) 0) ≡ true)) → (Kind-is-due ws (s .at) → ⊥) ⊎ (unused-bit (getD ws (s .at) 0) ≡ true)
+    by (inl n) = inl (λ k. n (going ws (s .at) k))
+    by (inr u) = inr u
+reader-refuses ws (Range p) l e s =
+    let q = place-is ws (Range p) s in
+    (bad-word ws (Range p) p l e s q (s .ends), subst (Kind-is-due ws) (sym q) (due ws (Range p) e (s .at) (s .within) (s .why .0)), subst (λ j. unused-bit (getD ws j 0) ≡ false) (sym q) (s .why .1))
 
 -- words left over behind a chart's
 left-over : (ws : List ℕ) (xs : List Row) → chart-reader 0 ws ≡ Ok xs → chart-words xs < length ws → First-fault ws (chart-words xs) × Is-chart (take (chart-words xs) ws)

@@ -1,12 +1,13 @@
 -- Why words are refused, and the place, in terms of charts.
 use mathlib.Core.Path.{_≡_}
-use mathlib.Core.Bool.{true}
+use mathlib.Core.Bool.{true, false}
 use mathlib.Core.Logic.{_⊎_}
-use mathlib.Core.List.{List, _++_}
+use mathlib.Core.List.{List, [], _∷_, _++_}
 use Prim.Native.Nat.{ℕ, suc, _<_, _≤_}
-use lib.ListN.{length, take}
+use lib.ListN.{length, take, getD}
 use Rattle.lts.specs.Meaning.{most-states}
 use Rattle.words.specs.declared.fault.WordFault.the-variants.{Length, Form, Range}
+use Rattle.words.specs.Words.{kind, unused-bit}
 use Rattle.words.specs.Bytes.{longest}
 use Rattle.charts.specs.declared.fault.ChartFault.{ChartFault}
 use Rattle.charts.specs.declared.fault.ChartFault.the-variants.{Word, TooManyStates}
@@ -50,15 +51,22 @@ pub record Word-fault (ws : List ℕ) (p : ℕ) : Type 0 where
   pub inside : p < length ws
   pub due : Is-chart (take p ws) → ⊥
 
+-- a word of the kind of the one at p could stand there
+pub record Kind-is-due (ws : List ℕ) (p : ℕ) : Type 0 where
+  pub word : ℕ
+  pub kinds : kind word ≡ kind (getD ws p 0)
+  pub begins : Begins-chart (take p ws ++ (word ∷ []))
+
 -- the words end early, or are left over behind a chart's
 pub record Length-fault (ws : List ℕ) (p : ℕ) : Type 0 where
   pub short : length ws ≤ longest
   pub first : First-fault ws p
   pub which : ((p ≡ length ws) × (Is-chart ws → ⊥)) ⊎ ((p < length ws) × Is-chart (take p ws))
 
--- a length too long is refused before the words; between 2 and 3 the kinds and fields of the word decide
+-- 1: the words are too many, which is tested first, end early or are left over; 2: another kind is due, or an unused
+-- bit is set; 3: neither, so a field is out of range; 7: there are too many states
 abbrev pub Refused-for : List ℕ → ChartFault → Type 0
 Refused-for ws (Word (Length p)) = ((longest < length ws) × (p ≡ longest)) ⊎ Length-fault ws p
-Refused-for ws (Word (Form p)) = Word-fault ws p
-Refused-for ws (Word (Range p)) = Word-fault ws p
+Refused-for ws (Word (Form p)) = Word-fault ws p × ((Kind-is-due ws p → ⊥) ⊎ (unused-bit (getD ws p 0) ≡ true))
+Refused-for ws (Word (Range p)) = Word-fault ws p × Kind-is-due ws p × (unused-bit (getD ws p 0) ≡ false)
 Refused-for ws (TooManyStates p) = (length ws ≤ longest) × Passes-limit ws p

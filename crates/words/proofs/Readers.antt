@@ -1,20 +1,22 @@
 -- Readers of words whose faults name the first word at fault: up to there the words could still become such as are read,
 -- and with the word there they no more can. Whatever is put together from such readers is one.
 use mathlib.Core.Path.{_≡_, refl, sym, ap, subst, fun-ext, _∙_}
+use mathlib.Core.Bool.{true, false}
 use mathlib.Core.Logic.{_⊎_, inl, inr}
 use mathlib.Core.List.{List, [], _∷_, _++_}
 use Prim.Native.Nat.{ℕ, zero, suc, _+_, _-_, _<_, _≤_}
 use native.Mathlib.Omega.{arith}
 use native.Mathlib.Nat.{add-assoc, add-zero}
-use lib.ListN.{length, take, drop}
+use lib.ListN.{length, take, drop, getD}
 use lib.Seq.{take-add, take-append-add}
 use Rattle.std.specs.declared.result.Result.{Result}
 use Rattle.std.specs.declared.result.Result.the-variants.{Ok, Err}
 use Rattle.std.proofs.shelf.Tests.{cases-lt}
-use Rattle.std.proofs.shelf.Lists.{append-assoc, take-append-drop, length-take-le, length-drop, take-take, take-append-le, drop-at}
+use Rattle.std.proofs.shelf.Lists.{append-assoc, take-append-drop, length-take-le, length-drop, take-take, take-append-le, drop-at, getD-drop}
 use Rattle.words.specs.declared.fault.WordFault.{WordFault}
 use Rattle.words.specs.declared.fault.WordFault.the-variants.{Length, Form, Range}
 use Rattle.words.specs.Faults.{fault-place}
+use Rattle.words.specs.Words.{kind, unused-bit}
 use Rattle.words.specs.Reading.{then, mapped}
 use Rattle.words.proofs.Results.{never-ok, same-ok, then-by, mapped-by}
 
@@ -28,6 +30,20 @@ Ends (Length q) i n = i ≡ n
 Ends (Form q) i n = i < n
 Ends (Range q) i n = i < n
 
+-- behind front, a word of w's kind can stand
+pub record Goes-on {A : Type 0} (P : Reader A) (p : ℕ) (front : List ℕ) (w : ℕ) : Type 0 where
+  pub word : ℕ
+  pub kinds : kind word ≡ kind w
+  pub rest : List ℕ
+  pub some : A
+  pub read : P p (front ++ (word ∷ rest)) ≡ Ok some
+
+-- 2: no word of this kind can stand there, or a bit is set that it does not use; 3: one can, and no such bit is set
+abbrev pub Why : {A : Type 0} → Reader A → ℕ → List ℕ → ℕ → WordFault → Type 0
+Why P p front w (Length q) = Unit {0}
+Why P p front w (Form q) = (Goes-on P p front w → ⊥) ⊎ (unused-bit w ≡ true)
+Why P p front w (Range q) = Goes-on P p front w × (unused-bit w ≡ false)
+
 pub record Stops {A : Type 0} (P : Reader A) (p : ℕ) (ws : List ℕ) (f : WordFault) : Type 0 where
   pub at : ℕ
   pub place : fault-place f ≡ p + at
@@ -37,6 +53,7 @@ pub record Stops {A : Type 0} (P : Reader A) (p : ℕ) (ws : List ℕ) (f : Word
   pub some : A
   pub more : P p (take at ws ++ rest) ≡ Ok some
   pub never : at < length ws → (v : List ℕ) (a : A) → P p (take (suc at) ws ++ v) ≡ Ok a → ⊥
+  pub why : Why P p (take at ws) (getD ws at 0) f
 
 pub record Good {A : Type 0} (used : A → ℕ) (P : Reader A) : Type 0 where
   -- something is read
@@ -74,7 +91,7 @@ Bad (Form q) p = q ≡ p
 Bad (Range q) p = q ≡ p
 
 module _ {A : Type 0} (used : A → ℕ) (W : ℕ → ℕ → Result A WordFault) (w₀ : ℕ) (a₀ : A) (good : (p : ℕ) → W p w₀ ≡ Ok a₀)
-    (uses : (a : A) → used a ≡ 1) (bad : (p w : ℕ) (f : WordFault) → W p w ≡ Err f → Bad f p) where
+    (uses : (a : A) → used a ≡ 1) (bad : (p w : ℕ) (f : WordFault) → W p w ≡ Err f → Bad f p) (why : (p w : ℕ) (f : WordFault) → W p w ≡ Err f → Why (one-word W) p [] w f) where
   stops : (p w : ℕ) (ws : List ℕ) (f : WordFault) → Bad f p → W p w ≡ Err f → Stops (one-word W) p (w ∷ ws) f
   stops p w ws (Length q) b e = absurd b
   stops p w ws (Form q) b e = record {
@@ -86,6 +103,7 @@ module _ {A : Type 0} (used : A → ℕ) (W : ℕ → ℕ → Result A WordFault
     some = a₀;
     more = good p;
     never = λ h v a k. never-ok (Form q) a (sym e ∙ k);
+    why = why p w (Form q) e;
   }
   stops p w ws (Range q) b e = record {
     at = 0;
@@ -96,6 +114,7 @@ module _ {A : Type 0} (used : A → ℕ) (W : ℕ → ℕ → Result A WordFault
     some = a₀;
     more = good p;
     never = λ h v a k. never-ok (Range q) a (sym e ∙ k);
+    why = why p w (Range q) e;
   }
 
   none : (p : ℕ) → Stops (one-word W) p [] (Length p)
@@ -108,6 +127,7 @@ module _ {A : Type 0} (used : A → ℕ) (W : ℕ → ℕ → Result A WordFault
     some = a₀;
     more = good p;
     never = λ h v a k. absurd (omega arith);
+    why = tt;
   }
 
   inside-one : (p : ℕ) (ws : List ℕ) (a : A) → one-word W p ws ≡ Ok a → used a ≤ length ws
@@ -137,6 +157,12 @@ module _ {A B : Type 0} (ua : A → ℕ) (ub : B → ℕ) (g : A → B) (P : Rea
   named-err (Ok a) f e = never-err f (g a) e
   named-err (Err d) f e = cc
 
+  why-named : (p : ℕ) (front : List ℕ) (w : ℕ) (f : WordFault) → Why P p front w f → Why Named p front w f
+  why-named p front w (Length q) y = tt
+  why-named p front w (Form q) (inl n) = inl (λ o. mapped-by g (P p (front ++ (o .word ∷ o .rest))) (o .some) (o .read) (λ a r _. n (record { word = o .word; kinds = o .kinds; rest = o .rest; some = a; read = r })))
+  why-named p front w (Form q) (inr u) = inr u
+  why-named p front w (Range q) (o, u) = (record { word = o .word; kinds = o .kinds; rest = o .rest; some = g (o .some); read = ap (mapped g) (o .read) }, u)
+
   stops-named : (p : ℕ) (ws : List ℕ) (f : WordFault) → Stops P p ws f → Stops Named p ws f
   stops-named p ws f s = record {
     at = s .at;
@@ -147,6 +173,7 @@ module _ {A B : Type 0} (ua : A → ℕ) (ub : B → ℕ) (g : A → B) (P : Rea
     some = g (s .some);
     more = ap (mapped g) (s .more);
     never = λ h v b e. mapped-by g (P p (take (suc (s .at)) ws ++ v)) b e (λ a q _. s .never h v a q);
+    why = why-named p (take (s .at) ws) (getD ws (s .at) 0) f (s .why);
   }
 
   pub named-good : Good ub Named
@@ -160,24 +187,34 @@ module _ {A B : Type 0} (ua : A → ℕ) (ub : B → ℕ) (g : A → B) (P : Rea
   }
 
 -- what is read after a fault is mended goes beyond it: had the words before it sufficed, there were no fault
-module _ {A : Type 0} (used : A → ℕ) (P : Reader A) (G : Good used P) (p : ℕ) (ws : List ℕ) (f : WordFault) (err : P p ws ≡ Err f) (s : Stops P p ws f) where
-  before : length (take (s .at) ws) ≡ s .at
-  before = length-take-le (s .at) ws (s .within)
+module _ {A : Type 0} (used : A → ℕ) (P : Reader A) (G : Good used P) (p : ℕ) (ws : List ℕ) (f : WordFault) (err : P p ws ≡ Err f)
+    (at : ℕ) (within : at ≤ length ws) (rest : List ℕ) (a : A) (more : P p (take at ws ++ rest) ≡ Ok a) where
+  before : length (take at ws) ≡ at
+  before = length-take-le at ws within
 
-  whole : used (s .some) < s .at → P p ws ≡ Ok (s .some)
+  whole : used a ≤ at → P p ws ≡ Ok a
   whole l =
-      let n = used (s .some) in
-      let le : n ≤ length (take (s .at) ws) = omega (arith, before) in
-      let same : take n (take (s .at) ws ++ s .rest) ≡ take n ws = take-append-le n (take (s .at) ws) (s .rest) le ∙ take-take n (s .at) ws (omega arith) in
-      ap (P p) (sym (ap (λ u. u ++ drop n ws) same ∙ take-append-drop n ws)) ∙ G .local p (take (s .at) ws ++ s .rest) (s .some) (s .more) (drop n ws)
+      let n = used a in
+      let le : n ≤ length (take at ws) = omega (arith, before) in
+      let same : take n (take at ws ++ rest) ≡ take n ws = take-append-le n (take at ws) rest le ∙ take-take n at ws (omega arith) in
+      ap (P p) (sym (ap (λ u. u ++ drop n ws) same ∙ take-append-drop n ws)) ∙ G .local p (take at ws ++ rest) a more (drop n ws)
 
-  pub goes-beyond : s .at ≤ used (s .some)
-  goes-beyond = elim (cases-lt (used (s .some)) (s .at)) [ inl l ↦ absurd (never-ok f (s .some) (sym err ∙ whole l)) | inr l ↦ l ]
+  pub goes-beyond : at < used a
+  goes-beyond = elim (cases-lt at (used a)) [ inl l ↦ l | inr l ↦ absurd (never-ok f a (sym err ∙ whole l)) ]
 
-  pub words-beyond : take (used (s .some)) (take (s .at) ws ++ s .rest) ≡ take (s .at) ws ++ take (used (s .some) - s .at) (s .rest)
+  pub words-beyond : take (used a) (take at ws ++ rest) ≡ take at ws ++ take (used a - at) rest
   words-beyond =
-      let sum : used (s .some) ≡ length (take (s .at) ws) + (used (s .some) - s .at) = omega (arith, goes-beyond, before) in
-      ap (λ j. take j (take (s .at) ws ++ s .rest)) sum ∙ take-append-add (take (s .at) ws) (s .rest) (used (s .some) - s .at)
+      let sum : used a ≡ length (take at ws) + (used a - at) = omega (arith, goes-beyond, before) in
+      ap (λ j. take j (take at ws ++ rest)) sum ∙ take-append-add (take at ws) rest (used a - at)
+
+-- with a word in the place of the one at fault
+module _ {A : Type 0} (used : A → ℕ) (P : Reader A) (G : Good used P) (p : ℕ) (ws : List ℕ) (f : WordFault) (err : P p ws ≡ Err f)
+    (at : ℕ) (within : at ≤ length ws) (o : Goes-on P p (take at ws) (getD ws at 0)) where
+  pub word-beyond : take (used (o .some)) (take at ws ++ (o .word ∷ o .rest)) ≡ take at ws ++ (o .word ∷ take (used (o .some) - suc at) (o .rest))
+  word-beyond =
+      let l = goes-beyond used P G p ws f err at within (o .word ∷ o .rest) (o .some) (o .read) in
+      let one : used (o .some) - at ≡ suc (used (o .some) - suc at) = omega arith in
+      words-beyond used P G p ws f err at within (o .word ∷ o .rest) (o .some) (o .read) ∙ ap (λ j. take at ws ++ take j (o .word ∷ o .rest)) one
 
 -- one reader, and behind its words another
 module _ {A B C : Type 0} (ua : A → ℕ) (ub : B → ℕ) (uc : C → ℕ) (g : A → B → C) (P : Reader A) (Q : A → Reader B)
@@ -220,26 +257,72 @@ module _ {A B C : Type 0} (ua : A → ℕ) (ub : B → ℕ) (uc : C → ℕ) (g 
       (subst (λ j. Both p (take j ws ++ v) ≡ Ok (g a b)) (sym (uses a b)) (ap (Both p) shape ∙ here))))
 
   -- the first reader is at fault
+  first-why : (p : ℕ) (ws : List ℕ) (f : WordFault) → P p ws ≡ Err f → (at : ℕ) → at ≤ length ws → (g : WordFault) → Why P p (take at ws) (getD ws at 0) g → Why Both p (take at ws) (getD ws at 0) g
+  first-why p ws f e at within (Length q) y = tt
+  first-why p ws f e at within (Form q) (inl n) =
+      inl (λ o. then-by (P p (take at ws ++ (o .word ∷ o .rest))) _ (o .some) (o .read) (λ a r _. n (record { word = o .word; kinds = o .kinds; rest = o .rest; some = a; read = r })))
+  first-why p ws f e at within (Form q) (inr u) = inr u
+  first-why p ws f e at within (Range q) (o, u) =
+      let list = take at ws ++ (o .word ∷ o .rest) in
+      let a = o .some in
+      let sample = H p list a (o .read) .sample (p + ua a) in
+      let shape = word-beyond ua P G p ws f e at within o in (
+        record {
+          word = o .word;
+          kinds = o .kinds;
+          rest = take (ua a - suc at) (o .rest) ++ sample;
+          some = g a (H p list a (o .read) .what (p + ua a));
+          read = ap (Both p) (sym (ap (λ v. v ++ sample) shape ∙ append-assoc (take at ws) (o .word ∷ take (ua a - suc at) (o .rest)) sample)) ∙ extended p list a (o .read);
+        },
+        u,
+      )
+
   first-stops : (p : ℕ) (ws : List ℕ) (f : WordFault) → P p ws ≡ Err f → Stops P p ws f → Stops Both p ws f
   first-stops p ws f e s =
       let list = take (s .at) ws ++ s .rest in
       let a = s .some in
-      let shape = words-beyond ua P G p ws f e s in
+      let sample = H p list a (s .more) .sample (p + ua a) in
+      let shape = words-beyond ua P G p ws f e (s .at) (s .within) (s .rest) (s .some) (s .more) in
       record {
         at = s .at;
         place = s .place;
         within = s .within;
         ends = s .ends;
-        rest = take (ua a - s .at) (s .rest) ++ H p list a (s .more) .sample (p + ua a);
+        rest = take (ua a - s .at) (s .rest) ++ sample;
         some = g a (H p list a (s .more) .what (p + ua a));
-        more = ap (Both p) (sym (ap (λ u. u ++ H p list a (s .more) .sample (p + ua a)) shape ∙ append-assoc (take (s .at) ws) (take (ua a - s .at) (s .rest)) (H p list a (s .more) .sample (p + ua a)))) ∙ extended p list a (s .more);
+        more = ap (Both p) (sym (ap (λ u. u ++ sample) shape ∙ append-assoc (take (s .at) ws) (take (ua a - s .at) (s .rest)) sample)) ∙ extended p list a (s .more);
         never = λ h v c k. then-by (P p (take (suc (s .at)) ws ++ v)) _ c k (λ b q _. s .never h v b q);
+        why = first-why p ws f e (s .at) (s .within) f (s .why);
       }
 
   ends-later : (f : WordFault) (u i n : ℕ) → u ≤ n → Ends f i (n - u) → Ends f (u + i) n
   ends-later (Length q) u i n l e = omega arith
   ends-later (Form q) u i n l e = omega arith
   ends-later (Range q) u i n l e = omega arith
+
+  -- what is read where the first words are those of a: these, and then the second
+  second-read : {X : Type 0} (p : ℕ) (ws tail : List ℕ) (a : A) (c : C) → P p ws ≡ Ok a → Both p (take (ua a) ws ++ tail) ≡ Ok c → ((d : B) → Q a (p + ua a) tail ≡ Ok d → X) → X
+  second-read p ws tail a c e k go =
+      then-by (P p (take (ua a) ws ++ tail)) _ c k (λ b q k.
+      let same : b ≡ a = same-ok b a (sym q ∙ G .local p ws a e tail) in
+      mapped-by (g b) (Q b (p + ua b) (drop (ua b) (take (ua a) ws ++ tail))) c k (λ d r _.
+      go d (sym (ap (Q a (p + ua a)) (drop-at (take (ua a) ws) tail (ua a) (front-length p ws a e))) ∙ subst (λ (z : A). Q z (p + ua z) (drop (ua z) (take (ua a) ws ++ tail)) ≡ Ok d) same r)))
+
+  second-why : (p : ℕ) (ws : List ℕ) (a : A) → P p ws ≡ Ok a → (front : List ℕ) (w : ℕ) (f : WordFault) → Why (Q a) (p + ua a) front w f → Why Both p (take (ua a) ws ++ front) w f
+  second-why p ws a e front w (Length q) y = tt
+  second-why p ws a e front w (Form q) (inl n) =
+      inl (λ o. second-read p ws (front ++ (o .word ∷ o .rest)) a (o .some) e (ap (Both p) (sym (append-assoc (take (ua a) ws) front (o .word ∷ o .rest))) ∙ o .read) (λ d r. n (record { word = o .word; kinds = o .kinds; rest = o .rest; some = d; read = r })))
+  second-why p ws a e front w (Form q) (inr u) = inr u
+  second-why p ws a e front w (Range q) (o, u) = (
+    record {
+      word = o .word;
+      kinds = o .kinds;
+      rest = o .rest;
+      some = g a (o .some);
+      read = ap (Both p) (append-assoc (take (ua a) ws) front (o .word ∷ o .rest)) ∙ joined p (take (ua a) ws) (front ++ (o .word ∷ o .rest)) a (o .some) (front-length p ws a e) (G .local p ws a e _) (o .read);
+    },
+    u,
+  )
 
   -- the second reader is at fault
   second-stops : (p : ℕ) (ws : List ℕ) (f : WordFault) (a : A) → P p ws ≡ Ok a → Stops (Q a) (p + ua a) (drop (ua a) ws) f → Stops Both p ws f
@@ -259,19 +342,13 @@ module _ {A B C : Type 0} (ua : A → ℕ) (ub : B → ℕ) (uc : C → ℕ) (g 
         rest = s .rest;
         some = g a (s .some);
         more = ap (Both p) (shape (s .rest)) ∙ joined p (take u ws) (take (s .at) (drop u ws) ++ s .rest) a (s .some) (front-length p ws a e) (G .local p ws a e _) (s .more);
-        never = λ h v c k. refuted lu (omega (arith, ld)) v c (sym (ap (Both p) (shape2 v)) ∙ k);
+        never = λ h v c k. second-read p ws (take (suc (s .at)) (drop u ws) ++ v) a c e (sym (ap (Both p) (shape2 v)) ∙ k) (λ d r. s .never (omega (arith, ld)) v d r);
+        why = subst (λ (v : List ℕ). Why Both p v (getD ws (u + s .at) 0) f) (sym (take-add u (s .at) ws))
+            (subst (λ w. Why Both p (take u ws ++ take (s .at) (drop u ws)) w f) (getD-drop u ws (s .at) 0) (second-why p ws a e (take (s .at) (drop u ws)) (getD (drop u ws) (s .at) 0) f (s .why)));
       }
     where
       next : (u i : ℕ) → suc (u + i) ≡ u + suc i
       next u i = omega arith
-
-      refuted : ua a ≤ length ws → s .at < length (drop (ua a) ws) → (v : List ℕ) (c : C) → Both p (take (ua a) ws ++ (take (suc (s .at)) (drop (ua a) ws) ++ v)) ≡ Ok c → ⊥
-      refuted lu h v c k =
-          let tail = take (suc (s .at)) (drop (ua a) ws) ++ v in
-          then-by (P p (take (ua a) ws ++ tail)) _ c k (λ b q k.
-          let same : b ≡ a = same-ok b a (sym q ∙ G .local p ws a e tail) in
-          mapped-by (g b) (Q b (p + ua b) (drop (ua b) (take (ua a) ws ++ tail))) c k (λ d r _.
-          s .never h v d (sym (ap (Q a (p + ua a)) (drop-at (take (ua a) ws) tail (ua a) (front-length p ws a e))) ∙ subst (λ (z : A). Q z (p + ua z) (drop (ua z) (take (ua a) ws ++ tail)) ≡ Ok d) same r)))
 
   err-by : {X : Type 0} (p : ℕ) (ws : List ℕ) (r : Result A WordFault) (f : WordFault) → then r (λ a. mapped (g a) (Q a (p + ua a) (drop (ua a) ws))) ≡ Err f
       → (r ≡ Err f → X) → ((a : A) → r ≡ Ok a → Q a (p + ua a) (drop (ua a) ws) ≡ Err f → X) → X

@@ -1,5 +1,5 @@
 -- What one word says, or why it is refused: the kind and the unused bits are tested before the fields.
-use mathlib.Core.Bool.{Bool, true, false, cond, _&&_}
+use mathlib.Core.Bool.{Bool, true, false, cond, not, _&&_, _||_}
 use Prim.Native.Nat.{ℕ, _/_, _%_, _^_}
 use lib.Dec.{eqb, leb}
 use Rattle.std.specs.declared.result.Result.{Result}
@@ -18,6 +18,15 @@ kind w = w / 2 ^ 28
 
 abbrev pub payload : ℕ → ℕ
 payload w = w % 2 ^ 28
+
+-- a bit is set that the words of this kind do not use
+abbrev pub unused-bit : ℕ → Bool
+unused-bit w =
+    cond (eqb (kind w) 0 || eqb (kind w) 3 || eqb (kind w) 4 || eqb (kind w) 14) (not (eqb (payload w) 0))
+    (cond (eqb (kind w) 1) (leb 256 (payload w))
+    (cond (eqb (kind w) 2) (eqb (payload w / 2 ^ 26) 0 && not (eqb (payload w / 2 ^ 23) 0))
+    (cond (eqb (kind w) 5) (leb 64 (payload w))
+    (cond (eqb (kind w) 6) (leb 4096 (payload w)) false))))
 
 -- go on where the test is passed, and else refuse
 abbrev pub check : {X : Type 0} → Bool → WordFault → Result X WordFault → Result X WordFault
