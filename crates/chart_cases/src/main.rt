@@ -49,3 +49,63 @@ fn run(rt: &LibcRuntime) -> Result<(), AnyError> {
 fn main(rt: LibcRuntime) -> Result<(), AnyError> {
     rt.report(run(&rt))
 }
+
+#[cfg(test)]
+mod tests {
+    use charts::Chart;
+    use charts::source::ChartSource;
+    use lts::Move;
+    use lts::Source;
+    use lts::source::OutOfRangePartialEq;
+    use std::test::*;
+
+    // Row 0 dwells 2 seconds and offers 1; row 1 is endless and offers 65 and 2.
+    const TWO_ROWS: [u32; 9] = [
+        0xC000_0002,
+        0xD000_0014,
+        0xB000_0001,
+        0xF000_0001,
+        0xB010_0001,
+        0xE000_0000,
+        0xF000_0002,
+        0xB410_0000,
+        0xB020_0001,
+    ];
+
+    // The answer to the question for a move, or the number of its refusal.
+    fn asked(chart: &Chart, s: u32, k: u32) -> Result<(u32, u32), u32> {
+        match chart.move_at(s, k) {
+            Ok(Move { label, target }) => Ok((label, target)),
+            Err(refused) => Err(refused.code()),
+        }
+    }
+
+    #[test]
+    fn questions(rt: LibcRuntime) -> Result<(), Fail> {
+        let mut chart = Chart::new(rt.alloc())?;
+        check(chart.fill(&TWO_ROWS).is_ok())?;
+        check_eq(chart.states(), 4)?;
+        check(chart.move_count(3) == Ok(3))?;
+        check(chart.move_count(4).is_err())?;
+        check_eq(asked(&chart, 2, 1), Ok((0, 3)))?;
+        check_eq(asked(&chart, 2, 2), Err(10))?;
+        check_eq(asked(&chart, 3, 2), Ok((128, 3)))?;
+        check_eq(asked(&chart, 4, 0), Err(10))?;
+        check(chart.tick(1) == Ok(Some(2)))?;
+        check(chart.tick(2) == Ok(None))?;
+        check(chart.tick(4).is_err())
+    }
+
+    #[test]
+    fn place(rt: LibcRuntime) -> Result<(), Fail> {
+        let mut chart = Chart::new(rt.alloc())?;
+        check(!chart.is_opened() && chart.states() == 1)?;
+        check(chart.fill(&TWO_ROWS[..8]).is_err())?;
+        check(!chart.is_opened())?;
+        check(chart.fill(&TWO_ROWS).is_ok())?;
+        check(chart.fill(&TWO_ROWS[..8]).is_err())?;
+        check(chart.is_opened() && chart.states() == 4)?;
+        check(chart.fill(&[0xC000_0001, 0xE000_0000, 0xF000_0000]).is_ok())?;
+        check_eq(chart.states(), 1)
+    }
+}

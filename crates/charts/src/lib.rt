@@ -4,12 +4,10 @@ pub mod chart;
 pub mod fault;
 mod opening;
 mod reading;
-pub mod row;
+mod row;
 pub mod source;
 mod tables;
 
 pub use chart::Chart;
 pub use fault::ChartFault;
 pub use opening::words_are_read_one_way;
-pub use row::Offer;
-pub use row::Stay;

@@ -1,5 +1,6 @@
--- Strong equivalence, over any two kinds of states whose steps are seen alike. Relations are tests, into Bool:
--- a contract cannot speak of all relations into types, and between finitely many states nothing is lost by it.
+-- Strong equivalence, over any two kinds of states whose steps are seen alike. Relations are tests, into Bool, since a
+-- contract cannot speak of all relations into types. That nothing is lost by it between finitely many states is not
+-- proved here.
 use mathlib.Core.Path.{_≡_}
 use mathlib.Core.Bool.{Bool, true}
 

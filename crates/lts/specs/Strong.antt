@@ -5,6 +5,9 @@ use lib.ListN.{length}
 use Rattle.lts.specs.Meaning.{Meaning, Laws, label-at, target-at}
 use Rattle.lts.specs.Equivalence.{Equivalent}
 
+-- Ask that s and t are below the counts wherever this is used: a number that is no state has no steps, so that any two
+-- such numbers are related.
+
 -- from a state below the count, a listed move with the label a leads to s′
 abbrev pub Step : Meaning → ℕ → ℕ → ℕ → Type 0
 Step m s a s′ = (s < m .count) × (k : ℕ) × (k < length (m .moves s)) × (label-at (m .moves s) k ≡ a) × (target-at (m .moves s) k ≡ s′)

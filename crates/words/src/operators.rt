@@ -5,12 +5,13 @@ ghost use Rattle.words.specs.Operators.{bare-in, prefix-in, delay-in, restrict
 use crate::fault::WordFault;
 use crate::term::Delay;
 use crate::term::Operator;
+use crate::word::PAYLOADS;
 
 // An operator with nothing in its payload.
 fn bare(word: u32, place: usize, found: Operator) -> Result<Operator, WordFault>
     ensures { λ r. ⌜ r ≡ bare-in found place word ⌝ }
 {
-    if word % 0x1000_0000 != 0 {
+    if word % PAYLOADS != 0 {
         return Err(WordFault::Form(place));
     }
     Ok(found)
@@ -20,7 +21,7 @@ fn bare(word: u32, place: usize, found: Operator) -> Result<Operator, WordFault>
 fn prefix(word: u32, place: usize) -> Result<Operator, WordFault>
     ensures { λ r. ⌜ r ≡ prefix-in place word ⌝ }
 {
-    let label = word % 0x1000_0000;
+    let label = word % PAYLOADS;
     if label >= 256 {
         return Err(WordFault::Form(place));
     }
@@ -35,7 +36,7 @@ fn prefix(word: u32, place: usize) -> Result<Operator, WordFault>
 fn delay(word: u32, place: usize) -> Result<Operator, WordFault>
     ensures { λ r. ⌜ r ≡ delay-in place word ⌝ }
 {
-    let payload = word % 0x1000_0000;
+    let payload = word % PAYLOADS;
     let form = payload / 0x400_0000;
     let between = payload % 0x400_0000 / 0x80_0000;
     let seconds = payload % 0x80_0000;
@@ -62,7 +63,7 @@ fn delay(word: u32, place: usize) -> Result<Operator, WordFault>
 fn restrict(word: u32, place: usize) -> Result<Operator, WordFault>
     ensures { λ r. ⌜ r ≡ restrict-in place word ⌝ }
 {
-    let name = word % 0x1000_0000;
+    let name = word % PAYLOADS;
     if name >= 64 {
         return Err(WordFault::Form(place));
     }
@@ -76,7 +77,7 @@ fn restrict(word: u32, place: usize) -> Result<Operator, WordFault>
 fn relabel(word: u32, place: usize) -> Result<Operator, WordFault>
     ensures { λ r. ⌜ r ≡ relabel-in place word ⌝ }
 {
-    let payload = word % 0x1000_0000;
+    let payload = word % PAYLOADS;
     if payload >= 4096 {
         return Err(WordFault::Form(place));
     }
@@ -92,7 +93,7 @@ fn relabel(word: u32, place: usize) -> Result<Operator, WordFault>
 pub fn operator(word: u32, place: usize) -> Result<Operator, WordFault>
     ensures { λ r. ⌜ r ≡ operator-in place word ⌝ }
 {
-    match word / 0x1000_0000 {
+    match word / PAYLOADS {
         0 => bare(word, place, Operator::Nil),
         1 => prefix(word, place),
         2 => delay(word, place),
@@ -100,7 +101,7 @@ pub fn operator(word: u32, place: usize) -> Result<Operator, WordFault>
         4 => bare(word, place, Operator::Compose),
         5 => restrict(word, place),
         6 => relabel(word, place),
-        7 => Ok(Operator::Refer(word % 0x1000_0000)),
+        7 => Ok(Operator::Refer(word % PAYLOADS)),
         _ => Err(WordFault::Form(place)),
     }
 }

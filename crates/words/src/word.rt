@@ -16,6 +16,9 @@ use lts::is_label;
 use lts::source::MoveDebug;
 use lts::source::MovePartialEq;
 
+// How many payloads there are: the kind stands above the lower 28 bits.
+pub(crate) const PAYLOADS: u32 = 0x1000_0000;
+
 // The longest dwell of a chart's row, in tenths of a second.
 pub const MOST_TENTHS: u32 = 40_959;
 
@@ -47,10 +50,10 @@ pub enum Word {
 fn counted(word: u32, place: usize, due: u32, least: u32, most: u32) -> Result<u32, WordFault>
     ensures { λ r. ⌜ r ≡ counted-in due least most place word ⌝ }
 {
-    if word / 0x1000_0000 != due {
+    if word / PAYLOADS != due {
         return Err(WordFault::Form(place));
     }
-    let payload = word % 0x1000_0000;
+    let payload = word % PAYLOADS;
     if payload < least || payload > most {
         return Err(WordFault::Range(place));
     }
@@ -92,14 +95,15 @@ pub fn offers(word: u32, place: usize) -> Result<u32, WordFault>
     counted(word, place, 15, 0, 62)
 }
 
-// A move: its label in the upper eight bits of the payload, its target below.
+// A word B, here called an arrow: a move with its label in the upper eight bits
+// of the payload and its target below.
 pub fn arrow(word: u32, place: usize) -> Result<Move<u32>, WordFault>
     ensures { λ r. ⌜ r ≡ arrow-in place word ⌝ }
 {
-    if word / 0x1000_0000 != 11 {
+    if word / PAYLOADS != 11 {
         return Err(WordFault::Form(place));
     }
-    let payload = word % 0x1000_0000;
+    let payload = word % PAYLOADS;
     let label = payload / 0x10_0000;
     if !is_label(label) {
         return Err(WordFault::Range(place));
@@ -114,8 +118,8 @@ pub fn arrow(word: u32, place: usize) -> Result<Move<u32>, WordFault>
 pub fn row(word: u32, place: usize) -> Result<RowHead, WordFault>
     ensures { λ r. ⌜ r ≡ row-in place word ⌝ }
 {
-    let payload = word % 0x1000_0000;
-    match word / 0x1000_0000 {
+    let payload = word % PAYLOADS;
+    match word / PAYLOADS {
         13 => {
             if payload > MOST_TENTHS {
                 return Err(WordFault::Range(place));
@@ -136,7 +140,7 @@ pub fn row(word: u32, place: usize) -> Result<RowHead, WordFault>
 pub fn decode(word: u32, place: usize) -> Result<Word, WordFault>
     ensures { λ r. ⌜ r ≡ decoded place word ⌝ }
 {
-    match word / 0x1000_0000 {
+    match word / PAYLOADS {
         0..=7 => Ok(Word::Operator(operator(word, place)?)),
         8 => Ok(Word::Definitions(definitions(word, place)?)),
         9 => Ok(Word::States(states(word, place)?)),
