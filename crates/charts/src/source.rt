@@ -98,11 +98,12 @@ pub impl Source for Chart as ChartSource {
 
     fn move_at(&self, s: u32, k: u32) -> Result<Move<u32>, OutOfRange> {
         let row = self.row_at(s)?;
-        let offers = row.offers as u32;
-        if k < offers {
+        let offers = row.offers;
+        let at = k as usize;
+        if at < offers {
             return Ok(self.offer_move(row, s, k));
         }
-        if k > offers {
+        if at > offers {
             return Err(OutOfRange);
         }
         Ok(self.closing_move(row, s))

@@ -4,7 +4,7 @@ use native.Mathlib.Omega.{arith}
 use Rattle.std.proofs.shelf.Results.{err-from-errBy}
 use Rattle.lts.proofs.Asked.{no-state}
 use Rattle.charts.specs.Charts.{meaning-of}
-use Rattle.charts.proofs.Answering.{few-offers-in, nth-offer, nth-past, nth-closing}
+use Rattle.charts.proofs.Answering.{nth-offer, nth-past, nth-closing}
 use Rattle.charts.proofs.source.ChartSource.move_at.Needs as need
 
 pub returns-in-Break-row : need.returns-in-Break-row
@@ -12,16 +12,13 @@ returns-in-Break-row c =
     let p = err-from-errBy (c .from-residual .result) (c .from-residual .ensures .1) in
     rw (p .1, p .2) (sym (no-state (meaning-of (c .args .self .now)) (c .args .s) (c .args .k) (c .in-Break-row .ensures tt)))
 
-pub cast-offers : need.cast-offers
-cast-offers c = omega (arith, few-offers-in (c .args .self .now) (c .args .s) (c .in-Continue-row .row) (c .in-Continue-row .ensures tt))
+pub returns-then-at-offers : need.returns-then-at-offers
+returns-then-at-offers c =
+    nth-offer (c .args .self .now) (c .args .s) (c .in-Continue-row .row) (c .in-Continue-row .ensures tt) (c .args .k) (c .offer-move .result) (c .if-at-offers .taken) (c .offer-move .ensures)
 
-pub returns-then-k-offers : need.returns-then-k-offers
-returns-then-k-offers c =
-    nth-offer (c .args .self .now) (c .args .s) (c .in-Continue-row .row) (c .in-Continue-row .ensures tt) (c .args .k) (c .offer-move .result) (c .if-k-offers .taken) (c .offer-move .ensures)
-
-pub returns-then-k-offers-2 : need.returns-then-k-offers-2
-returns-then-k-offers-2 c =
-    nth-past (c .args .self .now) (c .args .s) (c .in-Continue-row .row) (c .in-Continue-row .ensures tt) (c .args .k) (c .if-k-offers-2 .taken)
+pub returns-then-at-offers-2 : need.returns-then-at-offers-2
+returns-then-at-offers-2 c =
+    nth-past (c .args .self .now) (c .args .s) (c .in-Continue-row .row) (c .in-Continue-row .ensures tt) (c .args .k) (c .if-at-offers-2 .taken)
 
 pub returns : need.returns
 returns c =
