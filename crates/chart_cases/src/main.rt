@@ -3,6 +3,7 @@
 //
 // A line has the words of a file in hexadecimal. `W*N` is the word W, N times,
 // `+N` is N bytes behind the words, and from `#` on the line is a comment.
+#![tactic(auto)]
 
 use listing::file_text;
 

@@ -1,4 +1,5 @@
 // Charts: the state chart of a controller as a transition source.
+#![tactic(auto)]
 
 pub mod chart;
 pub mod fault;

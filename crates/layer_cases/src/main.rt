@@ -5,6 +5,8 @@
 // the words of the charts in hexadecimal, with `|` between two; `W*N` is the word W, N
 // times. It comes to the whole listing, `;` between its lines, or with `count` before
 // the layer to the first line. From `#` on a line is a comment.
+#![tactic(auto)]
+
 use anyhow::anyhow;
 
 mod over;

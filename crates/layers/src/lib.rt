@@ -1,5 +1,6 @@
 // Layers: a transition source made of others. Each layer is again a source, over
 // any sources, so that layers can be piled.
+#![tactic(auto)]
 
 pub mod fence;
 mod known;

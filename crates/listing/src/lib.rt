@@ -1,4 +1,5 @@
 // The text that lists a file: its states and their moves, or its refusal.
+#![tactic(auto)]
 
 pub mod file;
 pub mod text;

@@ -1,5 +1,6 @@
 // Labelled transition systems in whole seconds: labels, moves, the trait of
 // transition sources with its meaning and its laws, and strong equivalence.
+#![tactic(auto)]
 
 pub mod equivalence;
 pub mod label;

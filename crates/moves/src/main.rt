@@ -1,6 +1,7 @@
 // Lists chart files: how many states each has, and the moves of each state, or
 // its refusal. The files are named by the arguments; without one, `source.w` is
 // read. All files are read before anything is printed.
+#![tactic(auto)]
 
 use listing::file_text;
 use std::fs::File;

@@ -1,5 +1,6 @@
 // Files as lists of 32-bit words: what one word says, or why it is refused, and
 // the words that the bytes of a file make.
+#![tactic(auto)]
 
 pub mod fault;
 pub mod file;
