@@ -7,18 +7,18 @@ use Rattle.charts.proofs.reading.+read_offers.Goals as goal
 pub returns-then-count-eq0 : goal.returns-then-count-eq0
 returns-then-count-eq0 t c = none_left c.args.rows c.args.place c.args.count c.args.words.now c.if-count-eq0.true
 
-pub returns-in-default : goal.returns-in-default
-returns-in-default t c =
+pub returns-in_default : goal.returns-in_default
+returns-in_default t c =
     let h : length c.args.words.now < 1 = search rules in
     ends_early c.args.rows c.args.place c.args.count c.args.words.now c.if-count-eq0.false h
 
-pub returns-in-err-read-offer : goal.returns-in-err-read-offer
-returns-in-err-read-offer t c =
+pub returns-in_err-read_offer : goal.returns-in_err-read_offer
+returns-in_err-read_offer t c =
     let h : 0 < length c.args.words.now = search rules in
-    let p = err_from_is_err_and c.from-residual.result c.from-residual.ensures.1 in
-    rw (p.1, p.2) (at_fault c.args.rows c.args.place c.args.count c.args.words.now c.if-count-eq0.false h c.in-err-read-offer.field-0.0 c.in-err-read-offer.ensures)
+    let p = err_from_is_err_and c.from_residual.result c.from_residual.ensures.1 in
+    rw (p.1, p.2) (at_fault c.args.rows c.args.place c.args.count c.args.words.now c.if-count-eq0.false h c.in_err-read_offer.field-0.0 c.in_err-read_offer.ensures)
 
 pub returns : goal.returns
 returns t c =
     let h : 0 < length c.args.words.now = search rules in
-    goes_on c.args.rows c.args.place c.args.count c.args.words.now c.if-count-eq0.false h c.in-ok-read-offer.field-0 c.in-ok-read-offer.ensures _ (take_rest c.args.words.now 1) c.read_offers.result c.read_offers.ensures
+    goes_on c.args.rows c.args.place c.args.count c.args.words.now c.if-count-eq0.false h c.in_ok-read_offer.field-0 c.in_ok-read_offer.ensures _ (take_rest c.args.words.now 1) c.read_offers.result c.read_offers.ensures

@@ -2,22 +2,22 @@ use Rattle.std.proofs.lemmas.Result.{err_from_is_err_and}
 use Rattle.charts.proofs.RowFaults.{bad_stay, bad_count, bad_offers, whole_row, row_bounds}
 use Rattle.charts.proofs.reading.read_row.Goals as goal
 
-pub returns-in-err-stay : goal.returns-in-err-stay
-returns-in-err-stay c =
-    let p = err_from_is_err_and c.from-residual.result c.from-residual.ensures.1 in
-    rw (p.1, p.2) (record { read = (bad_stay c.args.rows c.args.place c.args.words.now c.in-err-stay.field-0.0 c.in-err-stay.ensures); bounds = tt })
+pub returns-in_err-stay : goal.returns-in_err-stay
+returns-in_err-stay c =
+    let p = err_from_is_err_and c.from_residual.result c.from_residual.ensures.1 in
+    rw (p.1, p.2) (record { read = (bad_stay c.args.rows c.args.place c.args.words.now c.in_err-stay.field-0.0 c.in_err-stay.ensures); bounds = tt })
 
-pub returns-in-err-count : goal.returns-in-err-count
-returns-in-err-count c =
-    let p = err_from_is_err_and c.from-residual-in-err-count.result c.from-residual-in-err-count.ensures.1 in
-    rw (p.1, p.2) (record { read = (bad_count c.args.rows c.args.place c.args.words.now c.in-ok-stay.stay c.words-at.result c.in-ok-stay.ensures c.words-at.ensures c.in-err-count.field-0.0 c.in-err-count.ensures); bounds = tt })
+pub returns-in_err-count : goal.returns-in_err-count
+returns-in_err-count c =
+    let p = err_from_is_err_and c.from_residual-in_err-count.result c.from_residual-in_err-count.ensures.1 in
+    rw (p.1, p.2) (record { read = (bad_count c.args.rows c.args.place c.args.words.now c.in_ok-stay.stay c.words-at.result c.in_ok-stay.ensures c.words-at.ensures c.in_err-count.field-0.0 c.in_err-count.ensures); bounds = tt })
 
-pub returns-in-err-read-offers : goal.returns-in-err-read-offers
-returns-in-err-read-offers c =
-    let p = err_from_is_err_and c.from-residual-in-err-read-offers.result c.from-residual-in-err-read-offers.ensures.1 in
-    rw (p.1, p.2) (record { read = (bad_offers c.args.rows c.args.place c.args.words.now c.in-ok-stay.stay c.words-at.result c.in-ok-stay.ensures c.words-at.ensures c.in-ok-count.count c.in-ok-count.ensures c.in-err-read-offers.field-0.0 c.in-err-read-offers.ensures); bounds = tt })
+pub returns-in_err-read_offers : goal.returns-in_err-read_offers
+returns-in_err-read_offers c =
+    let p = err_from_is_err_and c.from_residual-in_err-read_offers.result c.from_residual-in_err-read_offers.ensures.1 in
+    rw (p.1, p.2) (record { read = (bad_offers c.args.rows c.args.place c.args.words.now c.in_ok-stay.stay c.words-at.result c.in_ok-stay.ensures c.words-at.ensures c.in_ok-count.count c.in_ok-count.ensures c.in_err-read_offers.field-0.0 c.in_err-read_offers.ensures); bounds = tt })
 
 pub returns : goal.returns
 returns c =
-    let e = whole_row c.args.rows c.args.place c.args.words.now c.in-ok-stay.stay c.words-at.result c.in-ok-stay.ensures c.words-at.ensures c.in-ok-count.count c.in-ok-count.ensures c.in-ok-read-offers.ensures in
+    let e = whole_row c.args.rows c.args.place c.args.words.now c.in_ok-stay.stay c.words-at.result c.in_ok-stay.ensures c.words-at.ensures c.in_ok-count.count c.in_ok-count.ensures c.in_ok-read_offers.ensures in
     record { read = e; bounds = row_bounds c.args.rows c.args.place c.args.words.now _ e }

@@ -13,13 +13,13 @@ unreachable-requires t c =
     let h : length c.args.words.now < 1 = search rules in
     offer_is_there c.args.rows c.args.place c.args.count c.args.words.now c.requires.known c.if-count-eq0.false h
 
-pub unreachable-requires-in-default-read-offer : goal.unreachable-requires-in-default-read-offer
-unreachable-requires-in-default-read-offer t c =
+pub unreachable-requires-in_default-read_offer : goal.unreachable-requires-in_default-read_offer
+unreachable-requires-in_default-read_offer t c =
     let h : 0 < length c.args.words.now = search rules in
-    offer_is_good c.args.rows c.args.place c.args.count c.args.words.now c.requires.known c.if-count-eq0.false h c.in-default-read-offer.field-0 c.in-default-read-offer.ensures
+    offer_is_good c.args.rows c.args.place c.args.count c.args.words.now c.requires.known c.if-count-eq0.false h c.in_default-read_offer.field-0 c.in_default-read_offer.ensures
 
-pub add-offers-requires : goal.add-offers-requires
-add-offers-requires t c =
+pub add_offers-requires : goal.add_offers-requires
+add_offers-requires t c =
     let h : 0 < length c.args.words.now = search rules in
     let x = other_offers c.args.rows c.args.place c.args.count c.args.words.now _ c.requires.known c.if-count-eq0.false h c.in-Ok.offer c.in-Ok.ensures (take_rest c.args.words.now 1) in
     (search rules, (x.0, (search rules, search rules)))
@@ -29,7 +29,7 @@ returns t c =
     let h : 0 < length c.args.words.now = search rules in
     let x = other_offers c.args.rows c.args.place c.args.count c.args.words.now _ c.requires.known c.if-count-eq0.false h c.in-Ok.offer c.in-Ok.ensures (take_rest c.args.words.now 1) in
     record {
-      items = one_then_more _ _ _ _ _ c.in-Ok.offer c.push-reserved.ensures.items c.add-offers.ensures.items x.1;
+      items = one_then_more _ _ _ _ _ c.in-Ok.offer c.push_reserved.ensures.items c.add_offers.ensures.items x.1;
       number = search rules;
-      room = c.add-offers.ensures.room ∙ c.push-reserved.ensures.capacity;
+      room = c.add_offers.ensures.room ∙ c.push_reserved.ensures.capacity;
     }

@@ -1,4 +1,4 @@
 use Rattle.charts.proofs.tables.+add_offers.Given as goal
 
-abbrev pub decreases-add-offers : goal.decreases-add-offers
-decreases-add-offers l = l.count
+abbrev pub decreases-add_offers : goal.decreases-add_offers
+decreases-add_offers l = l.count

@@ -2,11 +2,11 @@ use Rattle.std.proofs.Common.{arith}
 use Rattle.charts.proofs.Answering.{begun, state_small, timeout_row, closes_by_tick, closes_by_timeout, closes_endless}
 use Rattle.charts.proofs.chart.Chart.closing_move.Goals as goal
 
-pub overflow-sub-s : goal.overflow-sub-s
-overflow-sub-s c = begun c.args.self.now c.args.s c.args.row c.requires
+pub overflow_sub-s : goal.overflow_sub-s
+overflow_sub-s c = begun c.args.self.now c.args.s c.args.row c.requires
 
-pub overflow-add-result : goal.overflow-add-result
-overflow-add-result c = omega (arith, state_small c.args.self.now c.args.s c.args.row c.requires)
+pub overflow_add-result : goal.overflow_add-result
+overflow_add-result c = omega (arith, state_small c.args.self.now c.args.s c.args.row c.requires)
 
 pub first-requires : goal.first-requires
 first-requires c = timeout_row c.args.self.now c.args.s c.args.row c.requires c.in-Finite.tenths c.in-Finite.timeout c.in-Finite.is

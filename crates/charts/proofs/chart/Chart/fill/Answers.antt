@@ -8,20 +8,20 @@ use Rattle.charts.proofs.Placing.{refused, filled}
 use Rattle.charts.proofs.Refilling.{held_sound}
 use Rattle.charts.proofs.chart.Chart.fill.Goals as goal
 
-pub returns-in-err-states : goal.returns-in-err-states
-returns-in-err-states c =
-    let p = err_from_is_err_and c.from-residual.result c.from-residual.ensures.1 in
-    let q = refused c.args.words.now c.in-err-states.field-0.0 c.in-err-states.ensures in
-    rw (p.1, p.2) (record { accepted = ((λ h. absurd (false≢true h)), (λ f. absurd (q.1 f))); refused = refused_for c.args.words.now c.in-err-states.field-0.0 q.0; encodes = tt; place = (q.0, refl) })
+pub returns-in_err-states : goal.returns-in_err-states
+returns-in_err-states c =
+    let p = err_from_is_err_and c.from_residual.result c.from_residual.ensures.1 in
+    let q = refused c.args.words.now c.in_err-states.field-0.0 c.in_err-states.ensures in
+    rw (p.1, p.2) (record { accepted = ((λ h. absurd (false≢true h)), (λ f. absurd (q.1 f))); refused = refused_for c.args.words.now c.in_err-states.field-0.0 q.0; encodes = tt; place = (q.0, refl) })
 
-pub invariant-of-self : goal.invariant-of-self
-invariant-of-self c =
+pub invariant_of-self : goal.invariant_of-self
+invariant_of-self c =
     let s = held_sound c.refill.new.self (good [] (check_chart c.args.words.now)) c.refill.ensures.held in
-    let f = filled c.args.words.now c.refill.new.self c.in-ok-states.states c.in-ok-states.ensures c.refill.ensures.held in
+    let f = filled c.args.words.now c.refill.new.self c.in_ok-states.states c.in_ok-states.ensures c.refill.ensures.held in
     let r = c.refill.ensures.room in
     (s.firsts, (s.counts, (s.owned, (f.encodes.limits, (r.rows, (r.offers, (r.owners, tt)))))))
 
 pub returns : goal.returns
 returns c =
-    let f = filled c.args.words.now c.refill.new.self c.in-ok-states.states c.in-ok-states.ensures c.refill.ensures.held in
+    let f = filled c.args.words.now c.refill.new.self c.in_ok-states.states c.in_ok-states.ensures c.refill.ensures.held in
     record { accepted = ((λ _. f.file), (λ _. refl)); refused = tt; encodes = f.encodes; place = (f.read, f.states, refl) }

@@ -5,11 +5,11 @@ use Rattle.charts.proofs.Placing.{resting_held, resting_within}
 use Rattle.charts.proofs.Refilling.{held_sound, held_rows}
 use Rattle.charts.proofs.chart.Chart.new.Goals as goal
 
-pub invariant-of-result : goal.invariant-of-result
-invariant-of-result c =
-    let u = c.add-row.new.self in
-    let none = c.in-ok-tables.ensures in
-    let h = resting_held c.in-ok-tables.tables u none.1 none.2 none.3 c.add-row.ensures.entries c.add-row.ensures.owners c.add-row.ensures.offers in
+pub invariant_of-result : goal.invariant_of-result
+invariant_of-result c =
+    let u = c.add_row.new.self in
+    let none = c.in_ok-tables.ensures in
+    let h = resting_held c.in_ok-tables.tables u none.1 none.2 none.3 c.add_row.ensures.entries c.add_row.ensures.owners c.add_row.ensures.offers in
     let s = held_sound u resting h in
-    let r = c.add-row.ensures.room in
+    let r = c.add_row.ensures.room in
     (s.firsts, (s.counts, (s.owned, (subst (λ (v : List Row). within v ≡ true) (sym (held_rows u resting h)) resting_within, (r.rows, (r.offers, (r.owners, tt)))))))

@@ -5,8 +5,8 @@ use Rattle.charts.specs.Charts.{rows_of}
 use Rattle.charts.proofs.Answering.{offer_inside, offer_is, offer_row}
 use Rattle.charts.proofs.chart.Chart.offer_move.Goals as goal
 
-pub overflow-add-row : goal.overflow-add-row
-overflow-add-row c =
+pub overflow_add-row : goal.overflow_add-row
+overflow_add-row c =
     let h = offer_inside c.args.self.now c.args.s c.args.row c.requires.stands c.args.k c.requires.inside in
     omega (arith, c.args.self.now.tables.offers.ok)
 

@@ -5,8 +5,8 @@ use Rattle.charts.proofs.Answering.{rows_count, states_count, owner_is, stands}
 use Rattle.charts.specs.States.{row_inside}
 use Rattle.charts.proofs.chart.Chart.row_at.Goals as goal
 
-pub returns-in-default : goal.returns-in-default
-returns-in-default c =
+pub returns-in_default : goal.returns-in_default
+returns-in_default c =
     let h : vec_len c.args.self.now.tables.owners ≤ c.args.s = search rules in
     omega (arith, states_count c.args.self.now)
 

@@ -15,22 +15,22 @@ returns-then-left-eq0 t c =
 
 pub unreachable-requires : goal.unreachable-requires
 unreachable-requires t c =
-    row_is_good c.args.rows c.args.place c.args.left c.args.words.now c.requires.known c.if-left-eq0.false c.in-default.field-0 c.in-default.ensures.read
+    row_is_good c.args.rows c.args.place c.args.left c.args.words.now c.requires.known c.if-left-eq0.false c.in_default.field-0 c.in_default.ensures.read
 
-pub add-row-requires : goal.add-row-requires
-add-row-requires t c =
+pub add_row-requires : goal.add_row-requires
+add_row-requires t c =
     let f = first c.args.rows c.args.place c.args.left c.args.words.now c.in-Ok.row c.words-at.result c.words-used.result c.requires.known c.if-left-eq0.false c.in-Ok.ensures.read c.words-at.ensures c.words-used.ensures in
     record { room = c.requires.room; row = search rules; states = omega (arith, c.requires.states, f.states) }
 
-pub add-offers-requires : goal.add-offers-requires
-add-offers-requires t c =
+pub add_offers-requires : goal.add_offers-requires
+add_offers-requires t c =
     let f = first c.args.rows c.args.place c.args.left c.args.words.now c.in-Ok.row c.words-at.result c.words-used.result c.requires.known c.if-left-eq0.false c.in-Ok.ensures.read c.words-at.ensures c.words-used.ensures in
     record { known = f.offers_ok; inside = search rules; room = search rules }
 
-pub add-rows-requires : goal.add-rows-requires
-add-rows-requires t c =
+pub add_rows-requires : goal.add_rows-requires
+add_rows-requires t c =
     let f = first c.args.rows c.args.place c.args.left c.args.words.now c.in-Ok.row c.words-at.result c.words-used.result c.requires.known c.if-left-eq0.false c.in-Ok.ensures.read c.words-at.ensures c.words-used.ensures in
-    (search rules, (f.rest_ok, (search rules, (search rules, (search rules, (search rules, omega (arith, c.requires.states, f.states, c.add-row.ensures.counts.1)))))))
+    (search rules, (f.rest_ok, (search rules, (search rules, (search rules, (search rules, omega (arith, c.requires.states, f.states, c.add_row.ensures.counts.1)))))))
 
 added : (s u v w : Tables) (row : RowRead) (x : Row) (xs all : List Row) → row ≡ record { stay = x.stay; offers = length x.offers } → all ≡ x ∷ xs
     → vec_items u.rows ≡ vec_items s.rows ++ (entry_of (vec_len s.owners) (vec_len s.offers) row ∷ [])
@@ -48,7 +48,7 @@ pub returns : goal.returns
 returns t c =
     let f = first c.args.rows c.args.place c.args.left c.args.words.now c.in-Ok.row c.words-at.result c.words-used.result c.requires.known c.if-left-eq0.false c.in-Ok.ensures.read c.words-at.ensures c.words-used.ensures in
     record {
-      grows = added c.args.self.now c.add-row.new.self (record { rows = c.add-row.new.self.rows; offers = c.add-offers.new.offers; owners = c.add-row.new.self.owners }) c.add-rows.new.self c.in-Ok.row f.x _ _ f.read f.all
-          c.add-row.ensures.entries c.add-row.ensures.owners _ c.add-offers.ensures.items c.add-row.ensures.offers f.offers refl refl c.add-rows.ensures.grows;
-      room = c.add-rows.ensures.room;
+      grows = added c.args.self.now c.add_row.new.self (record { rows = c.add_row.new.self.rows; offers = c.add_offers.new.offers; owners = c.add_row.new.self.owners }) c.add_rows.new.self c.in-Ok.row f.x _ _ f.read f.all
+          c.add_row.ensures.entries c.add_row.ensures.owners _ c.add_offers.ensures.items c.add_row.ensures.offers f.offers refl refl c.add_rows.ensures.grows;
+      room = c.add_rows.ensures.room;
     }

@@ -1,4 +1,4 @@
 use Rattle.charts.proofs.tables.Tables.+add_rows.Given as goal
 
-abbrev pub decreases-add-rows : goal.decreases-add-rows
-decreases-add-rows l = l.left
+abbrev pub decreases-add_rows : goal.decreases-add_rows
+decreases-add_rows l = l.left

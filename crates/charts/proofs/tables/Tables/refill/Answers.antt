@@ -8,13 +8,13 @@ unreachable-requires c =
     let h : length c.args.words.now < 1 = search rules in
     word_is_there c.args.words.now c.requires.known h
 
-pub unreachable-requires-in-default-rows : goal.unreachable-requires-in-default-rows
-unreachable-requires-in-default-rows c =
+pub unreachable-requires-in_default-rows : goal.unreachable-requires-in_default-rows
+unreachable-requires-in_default-rows c =
     let h : 0 < length c.args.words.now = search rules in
-    head_is_good c.args.words.now c.requires.known h c.in-default-rows.field-0 c.in-default-rows.ensures
+    head_is_good c.args.words.now c.requires.known h c.in_default-rows.field-0 c.in_default-rows.ensures
 
-pub add-rows-requires : goal.add-rows-requires
-add-rows-requires c =
+pub add_rows-requires : goal.add_rows-requires
+add_rows-requires c =
     let h : 0 < length c.args.words.now = search rules in
     let b = behind c.args.words.now _ c.in-Ok.rows c.requires.known h c.in-Ok.ensures (take_rest c.args.words.now 1) in
     record {
@@ -30,6 +30,6 @@ returns c =
     let h : 0 < length c.args.words.now = search rules in
     let b = behind c.args.words.now _ c.in-Ok.rows c.requires.known h c.in-Ok.ensures (take_rest c.args.words.now 1) in
     record {
-      held = held_from_none c.add-rows.new.self _ _ _ _ _ c.clear.ensures.items c.clear-2.ensures.items c.clear-3.ensures.items b.same c.add-rows.ensures.grows;
-      room = c.add-rows.ensures.room;
+      held = held_from_none c.add_rows.new.self _ _ _ _ _ c.clear.ensures.items c.clear-2.ensures.items c.clear-3.ensures.items b.same c.add_rows.ensures.grows;
+      room = c.add_rows.ensures.room;
     }

@@ -7,40 +7,40 @@ use Rattle.layers.specs.Fencing.{none_through, few_through, one_dropped, one_thr
 use Rattle.layers.proofs.fence.FenceSource.move_count.Goals as goal
 use Rattle.layers.proofs.fence.FenceSource.move_count.Goals.{then-not-holds, else-not-holds}
 
-pub returns-in-err-i-end : goal.returns-in-err-i-end
-returns-in-err-i-end g c =
+pub returns-in_err-i-end : goal.returns-in_err-i-end
+returns-in_err-i-end g c =
     let me = c.args.self.now in
-    let p = err_from_is_err_and c.from-residual.result c.from-residual.ensures.1 in
-    let h = was_not_counted (g.S.Source.meaning me.source) c.args.s c.in-err-i-end.field-0.0 c.in-err-i-end.ensures in
+    let p = err_from_is_err_and c.from_residual.result c.from_residual.ensures.1 in
+    let h = was_not_counted (g.S.Source.meaning me.source) c.args.s c.in_err-i-end.field-0.0 c.in_err-i-end.ensures in
     rw (p.1, p.2) (sym (not_counted (fence_meaning (in_set me.names.bits) (g.S.Source.meaning me.source)) c.args.s h))
 
 pub loop-i-init : goal.loop-i-init
 loop-i-init g c = none_through (in_set c.args.self.now.names.bits) ((g.S.Source.meaning c.args.self.now.source).moves c.args.s)
 
-pub known-move-step-requires : goal.known-move-step-requires
-known-move-step-requires g c =
-    let w = was_counted (g.S.Source.meaning c.args.self.now.source) c.args.s c.in-ok-i-end.i-end c.in-ok-i-end.ensures in
+pub known_move-step-requires : goal.known_move-step-requires
+known_move-step-requires g c =
+    let w = was_counted (g.S.Source.meaning c.args.self.now.source) c.args.s c.in_ok-i-end.i-end c.in_ok-i-end.ensures in
     record { state = w.0; place = omega (arith, w.1) }
 
-pub overflow-add-count : goal.overflow-add-count
-overflow-add-count g c =
+pub overflow_add-count : goal.overflow_add-count
+overflow_add-count g c =
     omega (arith, few_through (in_set c.args.self.now.names.bits) ((g.S.Source.meaning c.args.self.now.source).moves c.args.s) c.loop-i.i)
 
 pub loop-i-preserved : goal.loop-i-preserved
 loop-i-preserved g c =
     let me = c.args.self.now in
     let m = g.S.Source.meaning me.source in
-    let w = was_counted m c.args.s c.in-ok-i-end.i-end c.in-ok-i-end.ensures in
+    let w = was_counted m c.args.s c.in_ok-i-end.i-end c.in_ok-i-end.ensures in
     elim c.if-not-holds.branch [
       | then-not-holds v ↦
-          (let o = one_through (in_set me.names.bits) (m.moves c.args.s) c.loop-i.i c.known-move-step.result (omega (arith, w.1)) c.known-move-step.ensures v.if-not-holds.ensures in omega (arith, v.count-is, o))
+          (let o = one_through (in_set me.names.bits) (m.moves c.args.s) c.loop-i.i c.known_move-step.result (omega (arith, w.1)) c.known_move-step.ensures v.if-not-holds.ensures in omega (arith, v.count-is, o))
       | else-not-holds v ↦
-          (let o = one_dropped (in_set me.names.bits) (m.moves c.args.s) c.loop-i.i c.known-move-step.result (omega (arith, w.1)) c.known-move-step.ensures v.if-not-holds.ensures in omega (arith, v.count-is, o))
+          (let o = one_dropped (in_set me.names.bits) (m.moves c.args.s) c.loop-i.i c.known_move-step.result (omega (arith, w.1)) c.known_move-step.ensures v.if-not-holds.ensures in omega (arith, v.count-is, o))
     ]
 
 pub returns : goal.returns
 returns g c =
     let me = c.args.self.now in
     let m = g.S.Source.meaning me.source in
-    let w = was_counted m c.args.s c.in-ok-i-end.i-end c.in-ok-i-end.ensures in
+    let w = was_counted m c.args.s c.in_ok-i-end.i-end c.in_ok-i-end.ensures in
     counts (in_set me.names.bits) m c.args.s w.0 c.loop-i.count c.loop-i.i c.loop-i.invariant (omega (arith, w.1))

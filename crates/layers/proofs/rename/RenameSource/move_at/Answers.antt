@@ -2,13 +2,13 @@ use Rattle.std.proofs.lemmas.Result.{err_from_is_err_and}
 use Rattle.layers.specs.Renaming.{rename_finds, rename_misses}
 use Rattle.layers.proofs.rename.RenameSource.move_at.Goals as goal
 
-pub returns-in-err-label : goal.returns-in-err-label
-returns-in-err-label g c =
+pub returns-in_err-label : goal.returns-in_err-label
+returns-in_err-label g c =
     let me = c.args.self.now in
-    let p = err_from_is_err_and c.from-residual.result c.from-residual.ensures.1 in
-    rw (p.1, p.2) (rename_misses me.from me.to (g.S.Source.meaning me.source) c.args.s c.args.k c.in-err-label.field-0.0 c.in-err-label.ensures)
+    let p = err_from_is_err_and c.from_residual.result c.from_residual.ensures.1 in
+    rw (p.1, p.2) (rename_misses me.from me.to (g.S.Source.meaning me.source) c.args.s c.args.k c.in_err-label.field-0.0 c.in_err-label.ensures)
 
 pub returns : goal.returns
 returns g c =
     let me = c.args.self.now in
-    rename_finds me.from me.to (g.S.Source.meaning me.source) c.args.s c.args.k c.in-ok-label.field-0 c.in-ok-label.ensures c.renamed.result c.renamed.ensures
+    rename_finds me.from me.to (g.S.Source.meaning me.source) c.args.s c.args.k c.in_ok-label.field-0 c.in_ok-label.ensures c.renamed.result c.renamed.ensures
