@@ -19,7 +19,7 @@ invariant_of-self c =
     let s = held_sound c.refill.new.self (good [] (check_chart c.args.words.now)) c.refill.ensures.held in
     let f = filled c.args.words.now c.refill.new.self c.in_ok-states.states c.in_ok-states.ensures c.refill.ensures.held in
     let r = c.refill.ensures.room in
-    (s.firsts, (s.counts, (s.owned, (f.encodes.limits, (r.rows, (r.offers, (r.owners, tt)))))))
+    record { firsts = s.firsts; counts = s.counts; owned = s.owned; limits = f.encodes.limits; row_room = r.rows; offer_room = r.offers; owner_room = r.owners }
 
 pub returns : goal.returns
 returns c =

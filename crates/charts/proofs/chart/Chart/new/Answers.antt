@@ -12,4 +12,12 @@ invariant_of-result c =
     let h = resting_held c.in_ok-tables.tables u none.1 none.2 none.3 c.add_row.ensures.entries c.add_row.ensures.owners c.add_row.ensures.offers in
     let s = held_sound u resting h in
     let r = c.add_row.ensures.room in
-    (s.firsts, (s.counts, (s.owned, (subst (λ (v : List Row). within v ≡ true) (sym (held_rows u resting h)) resting_within, (r.rows, (r.offers, (r.owners, tt)))))))
+    record {
+      firsts = s.firsts;
+      counts = s.counts;
+      owned = s.owned;
+      limits = subst (λ (v : List Row). within v ≡ true) (sym (held_rows u resting h)) resting_within;
+      row_room = r.rows;
+      offer_room = r.offers;
+      owner_room = r.owners;
+    }

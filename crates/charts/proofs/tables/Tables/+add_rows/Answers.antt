@@ -30,7 +30,7 @@ add_offers-requires t c =
 pub add_rows-requires : goal.add_rows-requires
 add_rows-requires t c =
     let f = first c.args.rows c.args.place c.args.left c.args.words.now c.in-Ok.row c.words-at.result c.words-used.result c.requires.known c.if-left-eq0.false c.in-Ok.ensures.read c.words-at.ensures c.words-used.ensures in
-    (search rules, (f.rest_ok, (search rules, (search rules, (search rules, (search rules, omega (arith, c.requires.states, f.states, c.add_row.ensures.counts.1)))))))
+    (search rules, (f.rest_ok, (search rules, (search rules, (search rules, omega (arith, c.requires.states, f.states, c.add_row.ensures.counts.1))))))
 
 added : (s u v w : Tables) (row : RowRead) (x : Row) (xs all : List Row) → row ≡ record { stay = x.stay; offers = length x.offers } → all ≡ x ∷ xs
     → vec_items u.rows ≡ vec_items s.rows ++ (entry_of (vec_len s.owners) (vec_len s.offers) row ∷ [])
