@@ -1,5 +1,5 @@
 -- What a chart's invariant says of its tables, as the questions need it.
-use Rattle.std.proofs.Common.{◌≡◌, ℕ, ◌+◌, ◌-◌, ◌<◌, ◌≤◌, min, true, false, cond, eqb, ltb, leb, List, [], ◌∷◌, ◌++◌, map, length, get_or, take, drop, Some, None, Ok, Err, vec_items, vec_len, sym, refl, ap, ◌∙◌, subst, zero-add, arith}
+use Rattle.std.proofs.Common.{◌≡◌, ℕ, ◌+◌, ◌-◌, ◌<◌, ◌≤◌, true, cond, eqb, ltb, leb, List, [], ◌∷◌, map, length, get_or, take, drop, Some, None, Ok, Err, vec_items, vec_len, sym, ap, ◌∙◌, subst, zero-add, arith}
 use Rattle.std.proofs.lemmas.List.{length-map, length-append, length-take, length-drop, get_or_at, get_or_append_left, get_or-map, get_or-take, get_or-drop, get_or_default}
 use Rattle.std.proofs.lemmas.Bool.{cond-true, cond-false, and_parts, lt-ltb, le-ltb, ltb-true, eq-eqb, ne_eqb}
 use Rattle.lts.specs.declared.source.Move.{Move}
@@ -13,10 +13,10 @@ use Rattle.charts.specs.declared.tables.RowEntry.{RowEntry}
 use Rattle.charts.specs.declared.chart.Chart.{Chart}
 use Rattle.charts.specs.Rows.{Row, seconds, total, row_at, first, row_of, second_of, stay_fits}
 use Rattle.charts.specs.Meaning.{offer_move, closing_move}
-use Rattle.charts.specs.Tables.{entry_row, firsts, offer_counts, owners}
+use Rattle.charts.specs.Tables.{entry_row}
 use Rattle.charts.specs.Charts.{rows_of, meaning_of}
 use Rattle.charts.specs.Standing.{Stands}
-use Rattle.charts.specs.Accepted.{Limits, limits_of}
+use Rattle.charts.specs.Limits.{Limits, limits_of}
 use Rattle.charts.specs.States.{owners_length, owners_at, row_inside, row_begun, firsts_at}
 use Rattle.charts.specs.Laws.{no_move, offer_in_range, stay_in_range, few_offers, offer_at, state_tick}
 

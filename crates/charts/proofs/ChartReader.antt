@@ -1,5 +1,5 @@
 -- The reader of charts is put together from readers whose faults name the first word at fault.
-use Rattle.std.proofs.Common.{◌≡◌, ℕ, zero, suc, ◌+◌, ◌/◌, ◌^◌, ◌<◌, ◌≤◌, Bool, true, false, cond, ◌&&◌, eqb, ltb, leb, ◌⊎◌, List, [], ◌∷◌, ◌++◌, length, drop, Ok, Err, Result, sym, refl, ap, ◌∙◌, subst, inl, inr, arith}
+use Rattle.std.proofs.Common.{◌≡◌, ℕ, zero, suc, ◌+◌, ◌/◌, ◌^◌, ◌≤◌, Bool, true, false, cond, ◌&&◌, eqb, ltb, leb, ◌⊎◌, List, [], ◌∷◌, length, drop, Ok, Err, Result, sym, refl, ap, ◌∙◌, subst, inl, inr, arith}
 use Rattle.std.proofs.lemmas.Bool.{lt-ltb, and_from, eqb-true, eqb-false, eq-eqb, ne_eqb, cases_eq, cond-true, cond-false}
 use Rattle.std.proofs.lemmas.Bool.Decides.{nat_tests}
 use Rattle.std.proofs.lemmas.List.{drop-drop}
@@ -14,14 +14,14 @@ use Rattle.words.specs.Words.{kind, payload, unused_bit, check, counted, most_te
 use Rattle.words.specs.Encoded.{RowFits, arrow_word, row_word, count_word}
 use Rattle.words.proofs.Exact.{arrow_exact, arrow_kind, row_exact, row_back, offers_exact as word_offers_exact, offers_back as word_offers_back, rows_exact as word_rows_exact, rows_back as word_rows_back}
 use Rattle.words.proofs.Results.{never_ok, then_by}
-use Rattle.words.proofs.Readers.{Reader, Bad, Why, Good, one_word, word_good, nothing, named_good, Both, both_good, same_good, never_err}
+use Rattle.words.proofs.Readers.{Reader, Bad, Why, Good, one_word, word_good, nothing, named_good, both_good, same_good, never_err}
 use Rattle.charts.specs.declared.row.Stay.{Stay}
 use Rattle.charts.specs.declared.row.Stay.TheVariants.{Finite, Endless}
 use Rattle.charts.specs.declared.row.Offer.{Offer}
-use Rattle.charts.specs.Rows.{Row, stay_words, offer_fits}
-use Rattle.charts.specs.Reading.{timeout_in, offer_in, read_timeout, read_head, read_stay, read_count, read_offers, read_row, read_rows, row_words, rows_words}
+use Rattle.charts.specs.Rows.{Row, stay_words}
+use Rattle.charts.specs.Reading.{timeout_in, offer_in, read_head, read_stay, read_count, read_offers, read_row, read_rows, row_words, rows_words}
 use Rattle.charts.specs.Encoding.{offer_word}
-use Rattle.charts.specs.Exact.{row_of_parts, offer_back, timeout_back}
+use Rattle.charts.proofs.Exact.{row_of_parts, offer_back, timeout_back}
 
 -- a word that is refused is refused at its place
 

@@ -1,10 +1,9 @@
 -- Offers and rows that were read before are read again, one by one.
-use Rattle.std.proofs.Common.{◌≡◌, ℕ, zero, suc, ◌+◌, ◌-◌, ◌<◌, ◌≤◌, Bool, true, false, cond, List, [], ◌∷◌, ◌++◌, length, get_or, take, drop, replicate, is_ok as isOk, Ok, Err, Result, sym, refl, ap, ◌∙◌, subst, arith}
+use Rattle.std.proofs.Common.{◌≡◌, ℕ, zero, suc, ◌+◌, ◌-◌, ◌<◌, ◌≤◌, Bool, true, cond, List, [], ◌∷◌, ◌++◌, length, get_or, take, drop, replicate, is_ok as isOk, Ok, Err, Result, sym, refl, ap, ◌∙◌, arith}
 use Rattle.std.proofs.lemmas.Bool.{false≢true, cond-true}
 use Rattle.std.proofs.lemmas.List.{append_assoc, take_all}
 use Rattle.words.specs.declared.fault.WordFault.{WordFault}
 use Rattle.charts.specs.declared.row.Offer.{Offer}
-use Rattle.charts.specs.Rows.{Row}
 use Rattle.words.specs.Reading.{then, mapped}
 use Rattle.charts.specs.Reading.{offer_in, read_offers}
 use Rattle.charts.specs.Tables.{good}

@@ -1,25 +1,26 @@
 -- A refusal names the first word at fault, or the row that passes the limit of states.
-use Rattle.std.proofs.Common.{◌≡◌, ℕ, zero, suc, ◌+◌, ◌-◌, ◌<◌, ◌≤◌, Bool, true, false, cond, eqb, ltb, ◌⊎◌, List, [], ◌∷◌, ◌++◌, length, get_or, take, drop, Some, None, Ok, Err, Option, Result, sym, refl, ap, ◌∙◌, subst, ap₂, inl, inr, add-zero, one-add, arith, take-add}
-use Rattle.std.proofs.lemmas.Bool.{cond-true, cond-false, cases_Bool, ltb-true, ltb-false, eqb-true, eqb-false, le-ltb}
+use Rattle.std.proofs.Common.{◌≡◌, ℕ, suc, ◌+◌, ◌<◌, ◌≤◌, true, false, cond, eqb, ltb, ◌⊎◌, List, [], ◌∷◌, ◌++◌, length, get_or, take, drop, Some, None, Ok, Err, Option, Result, sym, refl, ap, ◌∙◌, subst, ap₂, inl, inr, add-zero, one-add, arith, take-add}
+use Rattle.std.proofs.lemmas.Bool.{cond-true, cond-false, cases_Bool, ltb-true, ltb-false, eqb-false}
 use Rattle.std.proofs.lemmas.List.{append-nil, append_assoc, length-append, take_at, take_all, take-append-drop, length-take-le}
 use Rattle.words.specs.declared.fault.WordFault.{WordFault}
 use Rattle.words.specs.declared.fault.WordFault.TheVariants.{Length, Form, Range}
 use Rattle.words.specs.Faults.{fault_place}
 use Rattle.words.specs.Bytes.{longest}
 use Rattle.words.specs.Reading.{then, mapped}
-use Rattle.words.specs.Words.{kind, unused_bit, rows_in}
+use Rattle.words.specs.Words.{unused_bit, rows_in}
 use Rattle.words.specs.Encoded.{count_word}
 use Rattle.words.proofs.Exact.{rows_exact as word_rows_exact, rows_back as word_rows_back}
 use Rattle.words.proofs.Results.{never_ok, same_ok, then_by, mapped_by}
-use Rattle.words.proofs.Readers.{Stops, Good, Goes_on, words_beyond, word_beyond, never_err}
+use Rattle.words.proofs.Readers.{Stops, Goes_on, words_beyond, word_beyond, never_err}
 use Rattle.charts.specs.declared.fault.ChartFault.{ChartFault}
 use Rattle.charts.specs.declared.fault.ChartFault.TheVariants.{Word, TooManyStates}
 use Rattle.charts.specs.Rows.{Row, size, total, rows_fit, in_layout}
 use Rattle.charts.specs.Reading.{read_rows, row_words, rows_words, read_whole, read_chart, overflow, sized, tested, check_chart}
 use Rattle.charts.specs.Encoding.{rows_encoded, encoded}
-use Rattle.charts.specs.Refusals.{BeginsChart, IsChart, FirstFault, PassesLimit, WordAtFault, LengthFault, KindIsDue, RefusedFor}
-use Rattle.charts.specs.Exact.{RowsAreRead, rows_exactly, rows_length, rows_back}
-use Rattle.charts.specs.Accepted.{Whole, whole_exactly, layout, layout_of}
+use Rattle.charts.specs.Refusals.{BeginsChart, IsChart, FirstFault, WordAtFault, KindIsDue, RefusedFor}
+use Rattle.charts.proofs.Exact.{RowsAreRead, rows_exactly, rows_length, rows_back}
+use Rattle.charts.specs.Limits.{layout, layout_of}
+use Rattle.charts.proofs.Accepted.{Whole, whole_exactly}
 use Rattle.charts.proofs.ChartReader.{chart_words, chart_reader, chart_good}
 
 -- what is read is a chart's words, and a chart's words are read

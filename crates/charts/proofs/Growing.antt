@@ -1,9 +1,8 @@
 -- Rows that were read before are added to the tables, one by one.
-use Rattle.std.proofs.Common.{◌≡◌, ℕ, zero, suc, ◌+◌, ◌-◌, ◌<◌, ◌≤◌, true, false, List, [], ◌∷◌, ◌++◌, length, take, drop, replicate, is_ok, Ok, Err, Result, sym, refl, ap, ◌∙◌, subst, ap₂, arith}
+use Rattle.std.proofs.Common.{◌≡◌, ℕ, zero, suc, ◌+◌, ◌-◌, true, List, [], ◌∷◌, ◌++◌, length, take, drop, replicate, is_ok, Ok, Err, sym, refl, ap, ◌∙◌, subst, ap₂, arith}
 use Rattle.std.proofs.lemmas.Bool.{false≢true}
 use Rattle.std.proofs.lemmas.List.{append-nil, append_assoc, length-append, length-replicate, take_rest}
 use Rattle.words.specs.declared.fault.WordFault.{WordFault}
-use Rattle.charts.specs.declared.row.Stay.{Stay}
 use Rattle.charts.specs.declared.row.Offer.{Offer}
 use Rattle.charts.specs.declared.reading.RowRead.{RowRead}
 use Rattle.charts.specs.declared.tables.RowEntry.{RowEntry}
@@ -13,7 +12,7 @@ use Rattle.words.specs.Reading.{then, mapped}
 use Rattle.charts.specs.Reading.{read_offers, read_row, read_rows, row_words}
 use Rattle.charts.specs.Tables.{good, entry_of, laid, all_offers, owners, Grown}
 use Rattle.words.proofs.Results.{mapped_ok, mapped_err}
-use Rattle.charts.specs.Exact.{RowParts, row_parts, offers_exact}
+use Rattle.charts.proofs.Exact.{RowParts, row_parts, offers_exact}
 use Rattle.charts.proofs.Filling.{mapped_is_ok, mapped_good, one_then_more}
 
 pub row_is_good : (n p k : ℕ) (ws : List ℕ) → is_ok (read_rows n p k ws) ≡ true → (k ≡ 0 → ⊥) → (f : WordFault) → Err f ≡ mapped row_read (read_row n p ws) → ⊥

@@ -1,3 +1,5 @@
+pub mod Exact
+pub mod Accepted
 pub mod Offers
 pub mod RowFaults
 pub mod Dwells

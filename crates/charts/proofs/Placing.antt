@@ -1,5 +1,5 @@
 -- A chart in its place, refused or filled.
-use Rattle.std.proofs.Common.{◌≡◌, ℕ, ◌+◌, ◌≤◌, true, false, List, [], ◌∷◌, ◌++◌, length, replicate, is_ok, Ok, Err, vec_items, vec_len, Result, Vec, sym, refl, ap, ◌∙◌, subst, ap₂, arith}
+use Rattle.std.proofs.Common.{◌≡◌, ℕ, true, List, [], ◌∷◌, ◌++◌, length, replicate, Ok, Err, vec_items, vec_len, Vec, sym, refl, ap, ◌∙◌, subst, ap₂}
 use Rattle.charts.specs.declared.fault.ChartFault.{ChartFault}
 use Rattle.charts.specs.declared.row.Stay.TheVariants.{Endless}
 use Rattle.charts.specs.declared.tables.Tables.{Tables}
@@ -10,7 +10,7 @@ use Rattle.charts.specs.Reading.{check_chart}
 use Rattle.charts.specs.Charts.{resting}
 use Rattle.charts.specs.Tables.{good, table_rows, entry_of, laid, all_offers, owners, Held}
 use Rattle.words.proofs.Results.{mapped_ok, mapped_err, never_ok}
-use Rattle.charts.specs.Accepted.{accepted_encodes, encodes_accepted}
+use Rattle.charts.proofs.Accepted.{accepted_encodes, encodes_accepted}
 use Rattle.charts.proofs.Refilling.{held_rows}
 
 pub refused : (ws : List ℕ) (f : ChartFault) → Err f ≡ mapped total (check_chart ws) → (check_chart ws ≡ Err f) × (ChartFile ws → ⊥)

@@ -1,7 +1,6 @@
 -- What was checked is there to be filled in.
-use Rattle.std.proofs.Common.{◌≡◌, ℕ, zero, suc, ◌+◌, ◌-◌, ◌<◌, ◌≤◌, true, false, cond, eqb, List, [], ◌∷◌, ◌++◌, map, length, get_or, take, drop, is_ok as isOk, Ok, Err, vec_items, Result, sym, refl, ap, ◌∙◌, subst, arith}
-use Rattle.std.proofs.lemmas.Bool.{false≢true}
-use Rattle.std.proofs.lemmas.List.{append-nil, append_assoc, length-append, take_at, drop_at, take_rest}
+use Rattle.std.proofs.Common.{◌≡◌, ℕ, suc, ◌+◌, ◌<◌, ◌≤◌, true, cond, eqb, List, [], ◌∷◌, ◌++◌, map, length, get_or, take, drop, is_ok as isOk, Ok, Err, vec_items, sym, refl, ap, ◌∙◌, subst, arith}
+use Rattle.std.proofs.lemmas.List.{append_assoc, length-append, take_at, drop_at}
 use Rattle.words.specs.declared.fault.WordFault.{WordFault}
 use Rattle.words.specs.declared.fault.WordFault.TheVariants.{Length}
 use Rattle.words.specs.Words.{rows_in}
@@ -10,12 +9,12 @@ use Rattle.charts.specs.declared.row.Offer.{Offer}
 use Rattle.charts.specs.declared.tables.RowEntry.{RowEntry}
 use Rattle.charts.specs.declared.tables.Tables.{Tables}
 use Rattle.charts.specs.Rows.{Row, size, total}
-use Rattle.charts.specs.Encoding.{Encodes}
 use Rattle.words.specs.Reading.{then}
 use Rattle.charts.specs.Reading.{read_rows, rows_words, read_whole, check_chart}
 use Rattle.charts.specs.Tables.{good, entry_row, table_rows, laid, all_offers, owners, entry_firsts, entry_counts, firsts, offer_counts, Grown, Held}
 use Rattle.words.proofs.Results.{then_ok, passed, never_ok, same_ok}
-use Rattle.charts.specs.Accepted.{tested_ok, read_ok, accepted_encodes, limits_of}
+use Rattle.charts.specs.Limits.{limits_of}
+use Rattle.charts.proofs.Accepted.{tested_ok, read_ok, accepted_encodes}
 use Rattle.charts.proofs.Filling.{is_ok}
 
 -- the words of a chart are there, and so is their number of rows

@@ -1,5 +1,5 @@
 -- The reading of a row, by the part that is at fault.
-use Rattle.std.proofs.Common.{◌≡◌, ℕ, ◌+◌, ◌-◌, ◌≤◌, true, ◌&&◌, ltb, leb, List, [], ◌∷◌, length, take, drop, Ok, Err, Result, sym, refl, ap, ◌∙◌, subst, arith}
+use Rattle.std.proofs.Common.{◌≡◌, ℕ, ◌+◌, ◌-◌, ◌≤◌, true, ◌&&◌, ltb, leb, List, length, take, drop, Ok, Err, Result, sym, ap, ◌∙◌, subst, arith}
 use Rattle.std.proofs.lemmas.List.{take_rest, length-append}
 use Rattle.std.proofs.lemmas.Bool.{and_parts, leb-true}
 use Rattle.words.specs.Words.{most_tenths}
@@ -14,7 +14,7 @@ use Rattle.charts.specs.Reading.{read_stay, read_count, read_offers, read_row}
 use Rattle.charts.specs.Encoding.{row_encoded}
 use Rattle.charts.proofs.Offers.{Tested}
 use Rattle.words.proofs.Results.{mapped_ok, mapped_err}
-use Rattle.charts.specs.Exact.{offers_exact, row_of_parts, RowIsRead, row_exactly, row_length}
+use Rattle.charts.proofs.Exact.{offers_exact, row_of_parts, RowIsRead, row_exactly, row_length}
 use Rattle.charts.proofs.Dwells.{seconds_most}
 
 module _ (n p : ℕ) (ws : List ℕ) where

@@ -1,5 +1,5 @@
 -- A chart within the limits keeps the laws of a transition source.
-use Rattle.std.specs.Prelude.{◌≡◌, ℕ, zero, suc, ◌+◌, ◌-◌, ◌<◌, ◌≤◌, Bool, true, false, cond, ◌&&◌, ◌⊎◌, List, [], ◌∷◌, ◌++◌, map, length, get_or, Some, None, Option, ◌==◌, ◌≢◌, nat_le, nat_lt, slice_index_or}
+use Rattle.std.specs.Prelude.{◌≡◌, ℕ, suc, ◌+◌, ◌<◌, ◌≤◌, true, cond, ◌&&◌, ◌⊎◌, List, [], ◌∷◌, ◌++◌, map, length, get_or, Some, None, ◌==◌, ◌≢◌, nat_le, nat_lt, slice_index_or}
 use Rattle.std.proofs.Math.Path.{refl, ap, subst}
 use Rattle.std.proofs.Common.{sym, ◌∙◌}
 use Rattle.std.proofs.Math.Logic.{inl, inr}
@@ -15,10 +15,10 @@ use Rattle.lts.specs.Answers.{tick_of}
 use Rattle.charts.specs.declared.row.Stay.{Stay}
 use Rattle.charts.specs.declared.row.Stay.TheVariants.{Finite, Endless}
 use Rattle.charts.specs.declared.row.Offer.{Offer}
-use Rattle.charts.specs.Rows.{Row, size, seconds, last_second, total, row_at, first, row_of, second_of, offer_fits, stay_fits, offers_fit, row_fits, within}
+use Rattle.charts.specs.Rows.{Row, size, seconds, last_second, total, row_at, first, row_of, second_of, stay_fits, offers_fit, row_fits, within}
 use Rattle.charts.specs.Meaning.{arrival, offer_move, closing_move, chart_meaning}
-use Rattle.charts.specs.Accepted.{Limits, limits_of}
-use Rattle.charts.specs.States.{row_inside, row_begun, row_lasts, row_ends, row_fits_at, offer_fits_at}
+use Rattle.charts.specs.Limits.{Limits, limits_of}
+use Rattle.charts.specs.States.{row_inside, row_begun, row_ends, row_fits_at, offer_fits_at}
 
 abbrev pub no_move : Move ℕ
 no_move = record { label = 0; target = 0 }

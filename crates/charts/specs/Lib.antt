@@ -9,6 +9,5 @@ pub mod Tables
 pub mod Charts
 pub mod Standing
 pub mod Laws
-pub mod Accepted
-pub mod Exact
+pub mod Limits
 pub mod States

@@ -1,5 +1,5 @@
 -- Inside a chart: what the tables say of the row in which a state stands.
-use Rattle.std.specs.Prelude.{◌≡◌, ℕ, ◌<◌, List, length, vec_items}
+use Rattle.std.specs.Prelude.{◌≡◌, ℕ, ◌<◌, length, vec_items}
 use Rattle.charts.specs.declared.tables.RowEntry.{RowEntry}
 use Rattle.charts.specs.declared.chart.Chart.{Chart}
 use Rattle.charts.specs.Rows.{total, row_at, first, row_of}

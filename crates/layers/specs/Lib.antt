@@ -3,9 +3,6 @@ pub mod Fences
 pub mod Renames
 pub mod Pairs
 pub mod Sides
-pub mod Fencing
-pub mod Renaming
-pub mod Siding
-pub mod Limits
-pub mod Pairing
-pub mod Picking
+pub mod FenceLaws
+pub mod RenameLaws
+pub mod PairLaws

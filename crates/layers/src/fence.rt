@@ -1,7 +1,7 @@
 ghost use Rattle.std.specs.Prelude.{◌≡◌, true, false, MatchResult};
 ghost use Rattle.layers.specs.Names.{in_set};
 ghost use Rattle.layers.specs.Fences.{fence_meaning};
-ghost use Rattle.layers.specs.Fencing.{fence_laws};
+ghost use Rattle.layers.specs.FenceLaws.{fence_laws};
 
 use crate::known::known_move;
 use crate::names::{NameSet, NameSetFault};

@@ -6,7 +6,7 @@ ghost use Rattle.std.specs.Prelude.{◌≡◌, true, MatchResult};
 ghost use Rattle.lts.specs.Relabelling.{renamed as renamed_label};
 ghost use Rattle.layers.specs.Names.{is_name as named};
 ghost use Rattle.layers.specs.Renames.{rename_meaning, Unnamed};
-ghost use Rattle.layers.specs.Renaming.{rename_laws};
+ghost use Rattle.layers.specs.RenameLaws.{rename_laws};
 
 use fault::RenameFault;
 use lts::label::CO;

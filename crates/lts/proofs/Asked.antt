@@ -1,5 +1,5 @@
 -- What the questions of a source are answered, in range and out of it.
-use Rattle.std.proofs.Common.{◌≡◌, ℕ, ◌<◌, ◌≤◌, cond, ◌&&◌, ltb, ◌⊎◌, length, get_or, Ok, Err, Option, sym, ◌∙◌, inl, inr, arith}
+use Rattle.std.proofs.Common.{◌≡◌, ℕ, ◌<◌, ◌≤◌, ◌&&◌, ltb, ◌⊎◌, length, get_or, Ok, Err, Option, inl, inr, arith}
 use Rattle.std.proofs.lemmas.Bool.{cond-true, cond-false, and_from, and_left, and_right, lt-ltb, le-ltb, cases_lt}
 use Rattle.lts.specs.declared.source.Move.{Move}
 use Rattle.lts.specs.declared.source.OutOfRange.{OutOfRange}

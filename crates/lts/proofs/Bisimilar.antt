@@ -1,9 +1,9 @@
 -- Strong equivalence is an equivalence.
-use Rattle.std.proofs.Common.{◌≡◌, ℕ, zero, suc, ◌<◌, Bool, true, false, ◌&&◌, ◌||◌, eqb, ◌⊎◌, sym, refl, subst, inl, inr, arith}
+use Rattle.std.proofs.Common.{◌≡◌, ℕ, zero, suc, ◌<◌, Bool, true, false, ◌&&◌, ◌||◌, eqb, sym, refl, subst, inl, inr, arith}
 use Rattle.std.proofs.lemmas.Bool.{eqb-true, eq-eqb, and_from, and_parts, or_cases, or_left, or_right, cases_lt, false≢true}
 use Rattle.lts.specs.Meaning.{Meaning, Laws}
 use Rattle.lts.specs.Equivalence.{Met}
-use Rattle.lts.specs.Strong.{Step, StronglyEquivalent, Reflexive, Symmetric, Transitive}
+use Rattle.lts.specs.Strong.{Step, Reflexive, Symmetric, Transitive}
 
 -- every step of a state is met by the same step of the same state
 pub reflexive : Reflexive

@@ -1,4 +1,4 @@
-use Rattle.std.proofs.Common.{◌≡◌, ℕ, ◌+◌, ◌-◌, ◌<◌, ◌≤◌, List, [], ◌∷◌, ◌++◌, length, vec_items, sym, refl, ap, ◌∙◌, arith, rules}
+use Rattle.std.proofs.Common.{◌<◌, ◌++◌, length, vec_items, sym, refl, ap, ◌∙◌, rules}
 use Rattle.std.proofs.lemmas.List.{take_rest, append-nil}
 use Rattle.charts.proofs.Filling.{no_offers, offer_is_there, offer_is_good, other_offers, one_then_more}
 use Rattle.charts.proofs.tables.+add_offers.Goals as goal

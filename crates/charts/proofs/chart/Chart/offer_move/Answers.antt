@@ -1,5 +1,4 @@
-use Rattle.std.proofs.Common.{◌≡◌, ℕ, ◌+◌, ◌<◌, vec_len, ap, ◌∙◌, arith}
-use Rattle.charts.specs.declared.row.Offer.{Offer}
+use Rattle.std.proofs.Common.{ap, ◌∙◌, arith}
 use Rattle.charts.specs.Meaning.{offer_move}
 use Rattle.charts.specs.Charts.{rows_of}
 use Rattle.charts.proofs.Answering.{offer_inside, offer_is, offer_row}

@@ -1,4 +1,4 @@
-use Rattle.std.proofs.Common.{◌≡◌, ℕ, ◌<◌, ◌≤◌, get_or, vec_items, vec_len, arith, rules}
+use Rattle.std.proofs.Common.{◌≡◌, ◌<◌, ◌≤◌, get_or, vec_items, vec_len, arith, rules}
 use Rattle.charts.specs.Rows.{total}
 use Rattle.charts.specs.Charts.{rows_of}
 use Rattle.charts.proofs.Answering.{rows_count, states_count, owner_is, stands}

@@ -1,4 +1,4 @@
-use Rattle.std.proofs.Common.{◌≡◌, ℕ, ◌+◌, ◌≤◌, true, is_ok, vec_items, vec_len, vec_capacity, refl, arith, rules}
+use Rattle.std.proofs.Common.{◌≡◌, true, is_ok, refl, rules}
 use Rattle.charts.proofs.Filling.{filled_up}
 use Rattle.charts.proofs.tables.Tables.add_row.Goals as goal
 

@@ -1,4 +1,4 @@
-use Rattle.std.proofs.Common.{◌≡◌, ℕ, ◌+◌, ◌<◌, ◌≤◌, length, arith, rules}
+use Rattle.std.proofs.Common.{◌<◌, length, arith, rules}
 use Rattle.std.proofs.lemmas.List.{take_rest}
 use Rattle.charts.proofs.Refilling.{word_is_there, head_is_good, behind, held_from_none}
 use Rattle.charts.proofs.tables.Tables.refill.Goals as goal

@@ -3,7 +3,7 @@ use Rattle.std.proofs.lemmas.Result.{err_from_is_err_and}
 use Rattle.lts.proofs.Asked.{was_counted, was_not_counted, no_state}
 use Rattle.layers.specs.Names.{in_set}
 use Rattle.layers.specs.Fences.{fence_meaning}
-use Rattle.layers.specs.Fencing.{none_through, one_dropped, one_through, finds, finds_none}
+use Rattle.layers.proofs.Fencing.{none_through, one_dropped, one_through, finds, finds_none}
 use Rattle.layers.proofs.fence.FenceSource.move_at.Goals as goal
 use Rattle.layers.proofs.fence.FenceSource.move_at.Goals.{then-not-holds+else-left-eq0, else-not-holds}
 

@@ -3,7 +3,7 @@ use Rattle.std.proofs.lemmas.Result.{err_from_is_err_and}
 use Rattle.lts.proofs.Asked.{was_counted, was_not_counted, not_counted}
 use Rattle.layers.specs.Names.{in_set}
 use Rattle.layers.specs.Fences.{fence_meaning}
-use Rattle.layers.specs.Fencing.{none_through, few_through, one_dropped, one_through, counts}
+use Rattle.layers.proofs.Fencing.{none_through, few_through, one_dropped, one_through, counts}
 use Rattle.layers.proofs.fence.FenceSource.move_count.Goals as goal
 use Rattle.layers.proofs.fence.FenceSource.move_count.Goals.{then-not-holds, else-not-holds}
 

@@ -1,6 +1,6 @@
 use Rattle.std.proofs.Common.{◌≡◌}
 use Rattle.layers.specs.Names.{in_set}
-use Rattle.layers.specs.Fencing.{let_through}
+use Rattle.layers.proofs.Fencing.{let_through}
 use Rattle.layers.proofs.fence.FenceSource.move_count.Given as goal
 
 abbrev pub invariant-loop-i : goal.invariant-loop-i

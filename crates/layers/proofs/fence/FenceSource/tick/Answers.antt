@@ -1,6 +1,6 @@
 use Rattle.std.proofs.Common.{◌∙◌}
 use Rattle.layers.specs.Names.{in_set}
-use Rattle.layers.specs.Fencing.{fence_tick}
+use Rattle.layers.proofs.Fencing.{fence_tick}
 use Rattle.layers.proofs.fence.FenceSource.tick.Goals as goal
 
 pub returns : goal.returns

@@ -1,5 +1,5 @@
 use Rattle.std.proofs.lemmas.Result.{err_from_is_err_and}
-use Rattle.layers.specs.Renaming.{rename_finds, rename_misses}
+use Rattle.layers.proofs.Renaming.{rename_finds, rename_misses}
 use Rattle.layers.proofs.rename.RenameSource.move_at.Goals as goal
 
 pub returns-in_err-label : goal.returns-in_err-label

@@ -1,5 +1,5 @@
 use Rattle.std.proofs.Common.{◌∙◌}
-use Rattle.layers.specs.Renaming.{rename_count}
+use Rattle.layers.proofs.Renaming.{rename_count}
 use Rattle.layers.proofs.rename.RenameSource.move_count.Goals as goal
 
 pub returns : goal.returns

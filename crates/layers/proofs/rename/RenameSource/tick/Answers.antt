@@ -1,5 +1,5 @@
 use Rattle.std.proofs.Common.{◌∙◌}
-use Rattle.layers.specs.Renaming.{rename_tick}
+use Rattle.layers.proofs.Renaming.{rename_tick}
 use Rattle.layers.proofs.rename.RenameSource.tick.Goals as goal
 
 pub returns : goal.returns

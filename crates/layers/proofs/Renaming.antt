@@ -1,8 +1,8 @@
--- What a renaming keeps: its laws, and its answers by those of its source.
-use Rattle.std.specs.Prelude.{◌≡◌, ℕ, ◌<◌, ◌≤◌, true, ◌⊎◌, List, length, Ok, Err, nat_le}
+-- What a renaming keeps: its tick, and its answers by those of its source.
+use Rattle.std.specs.Prelude.{◌≡◌, ℕ, true, length, Ok, Err}
 use Rattle.std.proofs.Math.Path.{sym, ap}
 use Rattle.std.proofs.Common.{◌∙◌, inl, inr, arith}
-use Rattle.std.proofs.lemmas.Bool.{cases_lt, and_parts, leb-true}
+use Rattle.std.proofs.lemmas.Bool.{cases_lt}
 use Rattle.std.proofs.lemmas.List.{length-map, get_or-map}
 use Rattle.lts.specs.declared.source.Move.{Move}
 use Rattle.lts.specs.declared.source.OutOfRange.{OutOfRange}
@@ -10,23 +10,15 @@ use Rattle.lts.specs.Meaning.{Meaning, Laws}
 use Rattle.lts.specs.Answers.{out_of_range, move_count, nth_move, tick_target}
 use Rattle.lts.specs.Relabelling.{renamed, relabel, relabelled}
 use Rattle.lts.proofs.Asked.{counted, not_counted, found, no_state, past_moves, ticked, not_ticked, was_there, was_missing, was_found}
-use Rattle.lts.proofs.Relabelling.{relabelled_lawful, relabelled_tick}
+use Rattle.lts.proofs.Relabelling.{relabelled_tick}
 use Rattle.layers.specs.Names.{is_name}
 use Rattle.layers.specs.Renames.{rename_meaning}
-
-pub name_range : (n : ℕ) → is_name n ≡ true → (1 ≤ n) × (n ≤ 63)
-name_range n h = let p = and_parts (nat_le 1 n) (nat_le n 63) h in (leb-true 1 n p.0, leb-true n 63 p.1)
+use Rattle.layers.specs.RenameLaws.{name_range}
 
 abbrev no_move : Move ℕ
 no_move = record { label = 0; target = 0 }
 
 module _ (a b : ℕ) (first : is_name a ≡ true) (second : is_name b ≡ true) (m : Meaning) (laws : Laws m) where
-  pub rename_laws : Laws (rename_meaning a b m)
-  rename_laws =
-      let p = name_range a first in
-      let q = name_range b second in
-      record { some = laws.some; most = laws.most; each = λ s h. relabelled_lawful a b p.0 p.1 q.0 q.1 m.count (m.moves s) (laws.each s h) }
-
   pub rename_tick : (s : ℕ) → tick_target m s ≡ tick_target (rename_meaning a b m) s
   rename_tick s =
       let p = name_range a first in

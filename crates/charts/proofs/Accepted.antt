@@ -1,21 +1,20 @@
 -- A list of words is taken exactly if it is the words of a chart within the limits.
-use Rattle.std.specs.Prelude.{◌≡◌, ℕ, zero, suc, ◌+◌, ◌<◌, ◌≤◌, Bool, true, false, cond, ◌&&◌, ◌⊎◌, List, [], ◌∷◌, ◌++◌, length, Some, None, Ok, Err, Option, Result, ◌==◌, nat_le, nat_lt, refl}
+use Rattle.std.specs.Prelude.{◌≡◌, ℕ, suc, ◌+◌, ◌≤◌, true, cond, List, [], ◌∷◌, ◌++◌, length, Some, None, Ok, Err, Option, Result, ◌==◌, nat_lt, refl}
 use Rattle.std.proofs.Common.{sym, ap, ap₂, subst, ◌∙◌, inl, inr, arith}
-use Rattle.std.proofs.lemmas.Bool.{cond-true, cond-false, cases_Bool, and_from, and_parts, ltb-true, ltb-false, leb-true, eqb-true, le-ltb, le-leb, eq-eqb}
+use Rattle.std.proofs.lemmas.Bool.{cond-true, cond-false, cases_Bool, ltb-false, eqb-true, le-ltb, eq-eqb}
 use Rattle.std.proofs.lemmas.List.{append-nil, drop_all}
 use Rattle.words.specs.declared.fault.WordFault.{WordFault}
 use Rattle.words.specs.declared.fault.WordFault.TheVariants.{Length}
 use Rattle.words.specs.Words.{rows_in}
 use Rattle.words.specs.Encoded.{count_word}
 use Rattle.words.proofs.Exact.{rows_exact as word_rows_exact, rows_back as word_rows_back}
-use Rattle.charts.specs.declared.fault.ChartFault.{ChartFault}
-use Rattle.charts.specs.declared.fault.ChartFault.TheVariants.{Word, TooManyStates}
-use Rattle.charts.specs.Rows.{Row, size, total, rows_fit, in_layout, within}
+use Rattle.charts.specs.Rows.{Row, size, total, rows_fit}
 use Rattle.words.specs.Reading.{then}
 use Rattle.charts.specs.Reading.{read_rows, rows_words, row_words, read_whole, read_chart, overflow, sized, tested, check_chart}
 use Rattle.charts.specs.Encoding.{rows_encoded, encoded, Encodes, ReadOneWay}
 use Rattle.words.proofs.Results.{then_ok, passed, never_ok, same_ok}
-use Rattle.charts.specs.Exact.{RowsAreRead, rows_exactly, rows_length, rows_back}
+use Rattle.charts.specs.Limits.{limits, limits_of}
+use Rattle.charts.proofs.Exact.{RowsAreRead, rows_exactly, rows_length, rows_back}
 
 -- the rows that the words of a file are
 pub record Whole (ws : List ℕ) (xs : List Row) : Type 0 where
@@ -78,40 +77,6 @@ none_if_fits s p (x ∷ xs) h =
     let small : s + size x ≤ 4096 = omega arith in
     let rest : (s + size x) + total xs ≤ 4096 = omega arith in
     cond-false (nat_lt 4096 (s + size x)) (Some p) (overflow (s + size x) (p + row_words x) xs) (le-ltb 4096 (s + size x) small) ∙ none_if_fits (s + size x) (p + row_words x) xs rest
-
--- the tests that make up the layout and the limits
-pub layout : (xs : List Row) → 1 ≤ length xs → length xs ≤ 256 → rows_fit (length xs) xs ≡ true → in_layout xs ≡ true
-unfolding in_layout
-layout xs some few h = and_from _ _ (and_from _ _ (le-leb 1 (length xs) some) (le-leb (length xs) 256 few)) h
-
-pub record Layout (xs : List Row) : Type 0 where
-  pub some : 1 ≤ length xs
-  pub few : length xs ≤ 256
-  pub fits : rows_fit (length xs) xs ≡ true
-
-pub layout_of : (xs : List Row) → in_layout xs ≡ true → Layout xs
-unfolding in_layout
-layout_of xs h =
-    let a = and_parts (nat_le 1 (length xs) && nat_le (length xs) 256) (rows_fit (length xs) xs) h in
-    let b = and_parts (nat_le 1 (length xs)) (nat_le (length xs) 256) a.0 in
-    record { some = leb-true 1 (length xs) b.0; few = leb-true (length xs) 256 b.1; fits = a.1 }
-
-pub limits : (xs : List Row) → 1 ≤ length xs → length xs ≤ 256 → rows_fit (length xs) xs ≡ true → total xs ≤ 4096 → within xs ≡ true
-unfolding within
-limits xs some few h small = and_from _ _ (layout xs some few h) (le-leb (total xs) 4096 small)
-
-pub record Limits (xs : List Row) : Type 0 where
-  pub some : 1 ≤ length xs
-  pub few : length xs ≤ 256
-  pub fits : rows_fit (length xs) xs ≡ true
-  pub small : total xs ≤ 4096
-
-pub limits_of : (xs : List Row) → within xs ≡ true → Limits xs
-unfolding within
-limits_of xs h =
-    let a = and_parts (in_layout xs) (nat_le (total xs) 4096) h in
-    let l = layout_of xs a.0 in
-    record { some = l.some; few = l.few; fits = l.fits; small = leb-true (total xs) 4096 a.1 }
 
 sized_ok : (xs ys : List Row) (o : Option ℕ) → sized xs o ≡ Ok ys → (o ≡ None) × (xs ≡ ys)
 sized_ok xs ys None e = (refl, same_ok xs ys e)

@@ -1,26 +1,23 @@
--- What a fence keeps: its laws, and its moves one after the other.
-use Rattle.std.specs.Prelude.{◌≡◌, ℕ, ◌+◌, ◌<◌, ◌≤◌, min, Bool, true, false, cond, not, ◌⊎◌, List, length, get_or, take, Ok, Err, slice_index_or}
+-- What a fence keeps: its tick, and its moves one after the other.
+use Rattle.std.specs.Prelude.{◌≡◌, ℕ, ◌+◌, ◌<◌, ◌≤◌, Bool, true, false, cond, not, List, length, get_or, take, Ok, Err, slice_index_or}
 use Rattle.std.proofs.Math.Path.{refl, sym, ap}
-use Rattle.std.proofs.Common.{subst, ◌∙◌, inl, inr, arith}
+use Rattle.std.proofs.Common.{◌∙◌, inl, inr, arith}
 use Rattle.std.proofs.lemmas.Bool.{cases_lt}
 use Rattle.std.proofs.lemmas.List.{take_all, length-take}
 use Rattle.std.proofs.lemmas.List.Filters.{length-filter_more}
 use Rattle.lts.specs.declared.source.Move.{Move}
 use Rattle.lts.specs.Meaning.{Meaning, Laws}
-use Rattle.lts.specs.Answers.{out_of_range, move_count, nth_move, tick_of, tick_target}
+use Rattle.lts.specs.Answers.{out_of_range, move_count, nth_move, tick_target}
 use Rattle.lts.specs.Restriction.{named_by, passes, restricted}
 use Rattle.lts.proofs.Asked.{counted, found, past_moves, ticked, not_ticked}
 use Rattle.lts.proofs.Kept.{kept_at}
-use Rattle.lts.proofs.Restricting.{restricted_lawful, restricted_tick, restricted_length}
+use Rattle.lts.proofs.Restricting.{restricted_tick, restricted_length}
 use Rattle.layers.specs.Fences.{fence_meaning}
 
 abbrev no_move : Move ℕ
 no_move = record { label = 0; target = 0 }
 
 module _ (names : ℕ → Bool) (m : Meaning) (laws : Laws m) where
-  pub fence_laws : Laws (fence_meaning names m)
-  fence_laws = record { some = laws.some; most = laws.most; each = λ s h. restricted_lawful names m.count (m.moves s) (laws.each s h) }
-
   pub fence_tick : (s : ℕ) → tick_target m s ≡ tick_target (fence_meaning names m) s
   fence_tick s =
       elim (cases_lt s m.count) [

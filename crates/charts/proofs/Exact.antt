@@ -1,18 +1,17 @@
 -- The reader takes exactly the words of charts: what it reads, encoded again, is the words, and what was encoded is read back.
-use Rattle.std.specs.Prelude.{◌≡◌, ℕ, zero, suc, ◌+◌, ◌*◌, ◌^◌, ◌<◌, ◌≤◌, Bool, true, false, cond, ◌&&◌, List, [], ◌∷◌, ◌++◌, map, length, drop, Ok, Err, Result, ◌==◌, nat_le, nat_lt, refl}
+use Rattle.std.specs.Prelude.{◌≡◌, ℕ, zero, suc, ◌+◌, ◌^◌, ◌<◌, ◌≤◌, true, cond, ◌&&◌, List, [], ◌∷◌, ◌++◌, map, length, drop, Ok, Err, ◌==◌, nat_le, nat_lt, refl}
 use Rattle.std.proofs.Common.{sym, ap, ap₂, subst, ◌∙◌, arith}
 use Rattle.std.proofs.lemmas.Bool.{cond-true, and_from, and_parts, ltb-true, leb-true, eqb-true, le-leb}
 use Rattle.std.proofs.lemmas.Bool.Decides.{nat_tests}
 use Rattle.std.proofs.lemmas.List.{append_assoc, length-append, length-map, drop_at, drop-drop}
 use Rattle.lts.specs.declared.source.Move.{Move}
 use Rattle.lts.specs.Labels.{label, visible}
-use Rattle.words.specs.declared.fault.WordFault.{WordFault}
 use Rattle.words.specs.declared.fault.WordFault.TheVariants.{Range}
 use Rattle.words.specs.declared.word.RowHead.{RowHead}
 use Rattle.words.specs.declared.word.RowHead.TheVariants.{Dwell, Endless as EndlessHead}
-use Rattle.words.specs.Words.{most_tenths, arrow_in, row_in, offers_in, rows_in}
-use Rattle.words.specs.Encoded.{Between, RowFits, arrow_word, row_word, count_word}
-use Rattle.words.proofs.Exact.{arrow_exact, arrow_back, row_exact, row_back, offers_exact as word_offers_exact, offers_back as word_offers_back, rows_exact as word_rows_exact, rows_back as word_rows_back}
+use Rattle.words.specs.Words.{most_tenths, arrow_in, row_in}
+use Rattle.words.specs.Encoded.{RowFits, arrow_word, row_word, count_word}
+use Rattle.words.proofs.Exact.{arrow_exact, arrow_back, row_exact, row_back, offers_exact as word_offers_exact, offers_back as word_offers_back}
 use Rattle.charts.specs.declared.row.Stay.{Stay}
 use Rattle.charts.specs.declared.row.Stay.TheVariants.{Finite, Endless}
 use Rattle.charts.specs.declared.row.Offer.{Offer}

@@ -1,0 +1,6 @@
+pub mod Fencing
+pub mod Renaming
+pub mod Siding
+pub mod Pairing
+pub mod Picking
+pub mod Limits
