@@ -77,7 +77,7 @@ mod tests {
         let mut file = WordFile::new(rt.alloc())?;
         assert_eq!(rt; file.fill(&[1, 2, 3, 4, 0, 0, 0, 128]), Ok(2));
         assert_eq!(rt; file.fill(&[9, 9, 9, 9, 9]), Err(WordFault::Length(1)));
-        assert!(rt; file.words() == [0x0403_0201, 0x8000_0000]);
+        assert!(rt; file.words() == [0x0403_0201, 0x8000_0000].as_slice());
         assert_eq!(rt; file.fill(&[]), Ok(0));
         assert!(rt; file.words().is_empty());
         Ok(())
