@@ -18,10 +18,12 @@ SIGNATURE = re.compile(
 )
 # Names of our own that no signature gives: imported under another name, or bound in a term.
 BOUND = """actions-in arrival-of at-met at-stride counted-in matching-label most-a most-b
-some-a some-b partner-of whole-seconds word-code word-place word-offers-back
+some-a some-b partner-of Goes_on whole-seconds word-code word-place word-offers-back
 word-offers-exact word-rows-back word-rows-exact""".split()
-# Names that would fall together with a type of the code.
+# Names that would fall together with a type of the code, and one that the kit's script
+# respelled first.
 OTHERWISE = {
+    "Goes_on": "GoesOn",
     "Word-fault": "WordAtFault",
     "Row-read": "RowIsRead",
     "Rows-read": "RowsAreRead",

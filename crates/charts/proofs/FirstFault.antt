@@ -11,7 +11,7 @@ use Rattle.words.specs.Words.{unused_bit, rows_in}
 use Rattle.words.specs.Encoded.{count_word}
 use Rattle.words.proofs.Exact.{rows_exact as word_rows_exact, rows_back as word_rows_back}
 use Rattle.words.proofs.Results.{never_ok, same_ok, then_by, mapped_by}
-use Rattle.words.proofs.Readers.{Stops, Goes_on, words_beyond, word_beyond, never_err}
+use Rattle.words.proofs.Readers.{Stops, GoesOn, words_beyond, word_beyond, never_err}
 use Rattle.charts.specs.declared.fault.ChartFault.{ChartFault}
 use Rattle.charts.specs.declared.fault.ChartFault.TheVariants.{Word, TooManyStates}
 use Rattle.charts.specs.Rows.{Row, size, total, rows_fit, in_layout}
@@ -82,13 +82,13 @@ no_chart ws f p e c =
     never_ok f ys (sym e ∙ ap (chart_reader 0) (sym (take-append-drop p ws)) ∙ here)
 
 -- a word of that kind can stand there in a chart exactly if the reader goes on with one
-due : (ws : List ℕ) (f : WordFault) → chart_reader 0 ws ≡ Err f → (at : ℕ) → at ≤ length ws → Goes_on chart_reader 0 (take at ws) (get_or ws at 0) → KindIsDue ws at
+due : (ws : List ℕ) (f : WordFault) → chart_reader 0 ws ≡ Err f → (at : ℕ) → at ≤ length ws → GoesOn chart_reader 0 (take at ws) (get_or ws at 0) → KindIsDue ws at
 due ws f e at h o =
     let r = chart_exact (take at ws ++ (o.word ∷ o.rest)) o.some o.read in
     let shape = sym r.words ∙ word_beyond chart_words chart_reader chart_good 0 ws f e at h o in
     record { word = o.word; kinds = o.kinds; begins = begins (take at ws ++ (o.word ∷ [])) o.some _ r.layout (shape ∙ sym (append_assoc (take at ws) (o.word ∷ []) _)) }
 
-going : (ws : List ℕ) (at : ℕ) → KindIsDue ws at → Goes_on chart_reader 0 (take at ws) (get_or ws at 0)
+going : (ws : List ℕ) (at : ℕ) → KindIsDue ws at → GoesOn chart_reader 0 (take at ws) (get_or ws at 0)
 going ws at k =
     let b = k.begins in
     record {
@@ -116,7 +116,7 @@ reader_refuses ws (Form p) l e s =
     let q = place_is ws (Form p) s in
     (bad_word ws (Form p) p l e s q s.ends, subst (λ j. (KindIsDue ws j → ⊥) ⊎ (unused_bit (get_or ws j 0) ≡ true)) (sym q) (by s.why))
   where
-    by : ((Goes_on chart_reader 0 (take s.at ws) (get_or ws s.at 0) → ⊥) ⊎ (unused_bit (get_or ws s.at 0) ≡ true)) → (KindIsDue ws s.at → ⊥) ⊎ (unused_bit (get_or ws s.at 0) ≡ true)
+    by : ((GoesOn chart_reader 0 (take s.at ws) (get_or ws s.at 0) → ⊥) ⊎ (unused_bit (get_or ws s.at 0) ≡ true)) → (KindIsDue ws s.at → ⊥) ⊎ (unused_bit (get_or ws s.at 0) ≡ true)
     by (inl n) = inl (λ k. n (going ws s.at k))
     by (inr u) = inr u
 reader_refuses ws (Range p) l e s =

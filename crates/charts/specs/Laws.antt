@@ -1,4 +1,5 @@
--- A chart within the limits keeps the laws of a transition source.
+-- A chart within the limits keeps the laws of a transition source: a proof, which stands here since the law of the source
+-- cites it.
 use Rattle.std.specs.Prelude.{◌≡◌, ℕ, suc, ◌+◌, ◌<◌, ◌≤◌, true, cond, ◌&&◌, ◌⊎◌, List, [], ◌∷◌, ◌++◌, map, length, get_or, Some, None, ◌==◌, ◌≢◌, nat_le, nat_lt, slice_index_or}
 use Rattle.std.proofs.Math.Path.{refl, ap, subst}
 use Rattle.std.proofs.Common.{sym, ◌∙◌}

@@ -3,7 +3,7 @@ ghost use Rattle.words.specs.Bytes.{longest};
 ghost use Rattle.charts.specs.Rows.{last_second, total};
 ghost use Rattle.charts.specs.Sums.{row_read, read_words, RowBounds, sums_with, sums_over};
 ghost use Rattle.words.specs.Reading.{mapped};
-ghost use Rattle.charts.specs.Reading.{timeout_in, offer_in, read_timeout, read_stay, read_count, read_offers, read_row, read_rows, check_chart};
+ghost use Rattle.charts.specs.Reading.{timeout_in, offer_in, read_timeout as timeout_behind, read_stay, read_count, read_offers, read_row, read_rows, check_chart};
 
 use crate::fault::ChartFault;
 use crate::row::{Offer, Stay};
@@ -97,7 +97,7 @@ pub(crate) fn read_offer(word: u32, place: usize, rows: u32) -> Result<Offer, Wo
 
 // What follows the word D of a row: its timeout.
 fn read_finite(words: &[u32], place: usize, tenths: u32, rows: u32) -> Result<Stay, WordFault>
-    ensures { result ≡ read_timeout rows place tenths words.now }
+    ensures { result ≡ timeout_behind rows place tenths words.now }
 {
     let [next, ..] = words else {
         return Err(WordFault::Length(place));

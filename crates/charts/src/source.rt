@@ -1,5 +1,5 @@
 ghost use Rattle.std.specs.Prelude.{◌≡◌, ◌<◌, ◌≤◌, length, MatchResult, slice_index_or};
-ghost use Rattle.charts.specs.Rows.{total, row_at, first as first_of, row_of, second_of};
+ghost use Rattle.charts.specs.Rows.{total, row_at as row_numbered, first as first_of, row_of, second_of};
 ghost use Rattle.charts.specs.Meaning.{arrival as arrival_of, offer_move, closing_move};
 ghost use Rattle.charts.specs.Charts.{rows_of, meaning_of};
 ghost use Rattle.charts.specs.Standing.{Stands};
@@ -42,7 +42,7 @@ impl Chart {
     fn offer_move(&self, row: RowEntry, s: u32, k: u32) -> Move<u32>
         requires stands { Stands self.now s row }
         requires inside { k < row.offers }
-        ensures { result ≡ offer_move (rows_of self.now) (slice_index_or (row_at (rows_of self.now) (row_of (rows_of self.now) s)).offers k (record { label = 0; row = 0 })) }
+        ensures { result ≡ offer_move (rows_of self.now) (slice_index_or (row_numbered (rows_of self.now) (row_of (rows_of self.now) s)).offers k (record { label = 0; row = 0 })) }
     {
         let offer = self.tables.offers[row.from + k as usize];
         Move {
@@ -54,7 +54,7 @@ impl Chart {
     // The move behind the offers.
     fn closing_move(&self, row: RowEntry, s: u32) -> Move<u32>
         requires { Stands self.now s row }
-        ensures { result ≡ closing_move (rows_of self.now) (row_at (rows_of self.now) (row_of (rows_of self.now) s)).stay s (second_of (rows_of self.now) s) }
+        ensures { result ≡ closing_move (rows_of self.now) (row_numbered (rows_of self.now) (row_of (rows_of self.now) s)).stay s (second_of (rows_of self.now) s) }
     {
         match row.stay {
             Stay::Finite { tenths, timeout } => {

@@ -23,7 +23,7 @@ Ends (Form q) i n = i < n
 Ends (Range q) i n = i < n
 
 -- behind front, a word of w's kind can stand
-pub record Goes_on {A : Type 0} (P : Reader A) (p : ℕ) (front : List ℕ) (w : ℕ) : Type 0 where
+pub record GoesOn {A : Type 0} (P : Reader A) (p : ℕ) (front : List ℕ) (w : ℕ) : Type 0 where
   pub word : ℕ
   pub kinds : kind word ≡ kind w
   pub rest : List ℕ
@@ -33,8 +33,8 @@ pub record Goes_on {A : Type 0} (P : Reader A) (p : ℕ) (front : List ℕ) (w :
 -- 2: no word of this kind can stand there, or a bit is set that it does not use; 3: one can, and no such bit is set
 abbrev pub Why : {A : Type 0} → Reader A → ℕ → List ℕ → ℕ → WordFault → Type 0
 Why P p front w (Length q) = Unit {0}
-Why P p front w (Form q) = (Goes_on P p front w → ⊥) ⊎ (unused_bit w ≡ true)
-Why P p front w (Range q) = Goes_on P p front w × (unused_bit w ≡ false)
+Why P p front w (Form q) = (GoesOn P p front w → ⊥) ⊎ (unused_bit w ≡ true)
+Why P p front w (Range q) = GoesOn P p front w × (unused_bit w ≡ false)
 
 pub record Stops {A : Type 0} (P : Reader A) (p : ℕ) (ws : List ℕ) (f : WordFault) : Type 0 where
   pub at : ℕ
@@ -201,7 +201,7 @@ module _ {A : Type 0} (used : A → ℕ) (P : Reader A) (G : Good used P) (p : �
 
 -- with a word in the place of the one at fault
 module _ {A : Type 0} (used : A → ℕ) (P : Reader A) (G : Good used P) (p : ℕ) (ws : List ℕ) (f : WordFault) (err : P p ws ≡ Err f)
-    (at : ℕ) (within : at ≤ length ws) (o : Goes_on P p (take at ws) (get_or ws at 0)) where
+    (at : ℕ) (within : at ≤ length ws) (o : GoesOn P p (take at ws) (get_or ws at 0)) where
   pub word_beyond : take (used o.some) (take at ws ++ (o.word ∷ o.rest)) ≡ take at ws ++ (o.word ∷ take (used o.some - suc at) o.rest)
   word_beyond =
       let l = goes_beyond used P G p ws f err at within (o.word ∷ o.rest) o.some o.read in
