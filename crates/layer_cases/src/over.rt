@@ -85,7 +85,7 @@ fn listing(rt: &HostRuntime, layer: &str, charts: &str) -> anyhow::Result<String
 }
 
 // The listing in one line, or only its first line.
-pub fn outcome(rt: &HostRuntime, layer: &str, charts: &str) -> anyhow::Result<String> {
+pub(crate) fn outcome(rt: &HostRuntime, layer: &str, charts: &str) -> anyhow::Result<String> {
     let (layer, most) = match layer.strip_prefix("count ") {
         Some(layer) => (layer, 1),
         None => (layer, usize::MAX),
