@@ -6,7 +6,7 @@ use Rattle.lts.specs.declared.source.OutOfRange.{OutOfRange}
 use Rattle.lts.specs.Answers.{out_of_range, tick_of, move_count, nth_move, tick_target}
 use Rattle.lts.specs.Meaning.{Meaning}
 
-abbrev no_move : Move ℕ
+abbrev pub no_move : Move ℕ
 no_move = record { label = 0; target = 0 }
 
 module _ (m : Meaning) (s : ℕ) where

@@ -6,3 +6,4 @@ pub mod Composing
 pub mod Restricting
 pub mod Relabelling
 pub mod Bisimilar
+pub mod Walking

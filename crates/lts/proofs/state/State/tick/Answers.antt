@@ -1,0 +1,13 @@
+use Rattle.std.proofs.Common.{arith}
+use Rattle.lts.proofs.Asked.{was_ticked, was_not_ticked}
+use Rattle.lts.proofs.state.State.tick.Goals as goal
+
+pub unreachable-requires : goal.unreachable-requires
+unreachable-requires g c =
+    let state = c.args.self.now in
+    omega (arith, was_not_ticked (g.S.Source.meaning state.source.now) state.number c.in-Err.field-0 c.in-Err.ensures)
+
+pub returns : goal.returns
+returns g c =
+    let state = c.args.self.now in
+    (was_ticked (g.S.Source.meaning state.source.now) state.number c.in-Ok.target c.in-Ok.ensures).1

@@ -1,0 +1,90 @@
+// The states of a source, each with its moves in order.
+
+ghost use Rattle.std.specs.Prelude.{◌≡◌, ◌<◌, ◌≤◌, drop, length, MatchResult};
+ghost use Rattle.std.specs.Iterator.{YieldsFirst, item_count};
+ghost use Rattle.lts.specs.Answers.{tick_of};
+
+use crate::source::{Move, OutOfRange, Source};
+
+// A state of a source, by its number.
+#[derive(Drop)]
+pub struct State<'a, S: Source> {
+    source: &'a S,
+    number: u32,
+    ghost inside: { number < (S.meaning source.now).count },
+}
+
+// The moves of a state that are still to come, in order.
+#[derive(Drop)]
+pub struct Moves<'a, S: Source> {
+    source: &'a S,
+    number: u32,
+    next: u32,
+    ghost inside: { number < (S.meaning source.now).count },
+}
+
+impl<'a, S: Source> State<'a, S> {
+    // The state of the source with that number.
+    pub fn of(source: &'a S, number: u32) -> Result<State<'a, S>, OutOfRange>
+        ensures { MatchResult result (λ s. (s.source.now ≡ source.now) × (s.number ≡ number)) (λ _. (S.meaning source.now).count ≤ number) }
+    {
+        if number >= source.states() {
+            return Err(OutOfRange);
+        }
+        Ok(State { source, number })
+    }
+
+    // Its number.
+    pub fn number(&self) -> u32
+        ensures { result ≡ self.now.number }
+    {
+        self.number
+    }
+
+    // How many moves it has.
+    pub fn move_count(&self) -> u32
+        ensures { result ≡ length ((S.meaning self.now.source.now).moves self.now.number) }
+    {
+        match self.source.move_count(self.number) {
+            Ok(count) => count,
+            Err(_) => unreachable(),
+        }
+    }
+
+    // Its moves, in order.
+    pub fn moves(&self) -> Moves<'a, S>
+        ensures { drop result.next ((S.meaning result.source.now).moves result.number) ≡ (S.meaning self.now.source.now).moves self.now.number }
+    {
+        Moves {
+            source: self.source,
+            number: self.number,
+            next: 0,
+        }
+    }
+
+    // Where its tick leads, if it has one.
+    pub fn tick(&self) -> Option<u32>
+        ensures { result ≡ tick_of ((S.meaning self.now.source.now).moves self.now.number) }
+    {
+        match self.source.tick(self.number) {
+            Ok(target) => target,
+            Err(_) => unreachable(),
+        }
+    }
+}
+
+impl<'a, S: Source> Iterator for Moves<'a, S> {
+    type Item = Move<u32>;
+
+    ghost next_gives = { YieldsFirst (λ m. drop m.next ((S.Source.meaning m.source.now).moves m.number)) };
+
+    ghost remaining = { item_count (λ m. drop m.next ((S.Source.meaning m.source.now).moves m.number)) };
+
+    fn next(&mut self) -> Option<Move<u32>> {
+        let Ok(step) = self.source.move_at(self.number, self.next) else {
+            return None;
+        };
+        self.next += 1;
+        Some(step)
+    }
+}
