@@ -2,6 +2,7 @@ ghost use Rattle.std.specs.Prelude.{◌≡◌};
 ghost use Rattle.charts.specs.Faults.{fault_code, fault_place};
 ghost use Rattle.charts.specs.declared.fault.ChartFault.TheVariants.{Word};
 
+use lts::Refusal;
 use words::WordFault;
 
 // Why a list of words is no chart: a fault of one word, or more states than a
@@ -20,21 +21,19 @@ impl From<WordFault> for ChartFault {
     }
 }
 
-impl ChartFault {
-    // The number of the refusal.
-    pub fn code(self) -> u32
-        ensures { result ≡ fault_code self }
-    {
+impl Refusal for ChartFault {
+    ghost number = { fault_code };
+
+    ghost about = { fault_place };
+
+    fn code(self) -> u32 {
         match self {
             ChartFault::Word(fault) => fault.code(),
             ChartFault::TooManyStates(_) => 7,
         }
     }
 
-    // The place that it names.
-    pub fn place(self) -> usize
-        ensures { result ≡ fault_place self }
-    {
+    fn place(self) -> usize {
         match self {
             ChartFault::Word(fault) => fault.place(),
             ChartFault::TooManyStates(place) => place,

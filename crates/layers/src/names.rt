@@ -2,8 +2,8 @@ ghost use Rattle.std.specs.Prelude.{◌≡◌, ◌<◌, true, false, MatchResult
 ghost use Rattle.lts.specs.Restriction.{named_by};
 ghost use Rattle.layers.specs.Names.{in_set, names_code, names_place};
 
-use lts::is_visible;
 use lts::label::CO;
+use lts::{Refusal, is_visible};
 
 // A set of names: the bit n stands for the name n. No name has the number 0, so
 // the lowest bit is never set.
@@ -17,18 +17,16 @@ pub(crate) struct NameSet {
 #[derive(Clone, Copy, PartialEq, Debug)]
 pub struct NameSetFault;
 
-impl NameSetFault {
-    // The number of the refusal.
-    pub fn code(self) -> u32
-        ensures { result ≡ names_code }
-    {
+impl Refusal for NameSetFault {
+    ghost number = { λ _. names_code };
+
+    ghost about = { λ _. names_place };
+
+    fn code(self) -> u32 {
         3
     }
 
-    // The place that it names.
-    pub fn place(self) -> u32
-        ensures { result ≡ names_place }
-    {
+    fn place(self) -> usize {
         0
     }
 }

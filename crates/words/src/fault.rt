@@ -3,6 +3,8 @@
 ghost use Rattle.std.specs.Prelude.{◌≡◌};
 ghost use Rattle.words.specs.Faults.{fault_code, fault_place};
 
+use lts::Refusal;
+
 #[derive(Clone, Copy, PartialEq, Debug)]
 pub enum WordFault {
     // The words end early, are left over, or are too many.
@@ -13,11 +15,12 @@ pub enum WordFault {
     Range(usize),
 }
 
-impl WordFault {
-    // The number of this kind of fault.
-    pub fn code(self) -> u32
-        ensures { result ≡ fault_code self }
-    {
+impl Refusal for WordFault {
+    ghost number = { fault_code };
+
+    ghost about = { fault_place };
+
+    fn code(self) -> u32 {
         match self {
             WordFault::Length(_) => 1,
             WordFault::Form(_) => 2,
@@ -26,9 +29,7 @@ impl WordFault {
     }
 
     // The place of the word, counted from 0.
-    pub fn place(self) -> usize
-        ensures { result ≡ fault_place self }
-    {
+    fn place(self) -> usize {
         match self {
             WordFault::Length(place) => place,
             WordFault::Form(place) => place,
