@@ -1,6 +1,6 @@
 -- Readers of words whose faults name the first word at fault: up to there the words could still become such as are read,
 -- and with the word there they no more can. Whatever is put together from such readers is one.
-use Rattle.std.proofs.Common.{◌≡◌, ℕ, zero, suc, ◌+◌, ◌-◌, ◌<◌, ◌≤◌, true, false, ◌⊎◌, List, [], ◌∷◌, ◌++◌, length, get_or, take, drop, Ok, Err, Result, sym, refl, ap, ◌∙◌, subst, inl, inr, add-zero, add_assoc, arith, take-add}
+use Rattle.std.proofs.Common.{◌≡◌, ℕ, suc, ◌+◌, ◌-◌, ◌<◌, ◌≤◌, true, false, ◌⊎◌, List, [], ◌∷◌, ◌++◌, length, get_or, take, drop, Ok, Err, Result, sym, refl, ap, ◌∙◌, subst, inl, inr, add-zero, add_assoc, arith, take-add}
 use mathlib.Core.Path.{fun_ext}
 use lib.Seq.{take-append-add}
 use Rattle.std.proofs.lemmas.Bool.{cases_lt}

@@ -2,17 +2,16 @@
 // the words that the bytes of a file make.
 #![tactic(auto)]
 
+pub mod cursor;
 pub mod fault;
 pub mod file;
-pub mod operators;
+mod kind;
+mod operators;
 pub mod term;
 pub mod word;
 
+pub use cursor::Cursor;
 pub use fault::WordFault;
 pub use file::{LONGEST, WordFile};
-pub use operators::operator;
 pub use term::{Delay, Operator};
-pub use word::{
-    MOST_ROWS, MOST_TENTHS, RowHead, Word, arrow, decode, decoding_is_exact, definitions, moves,
-    offers, row, rows, states,
-};
+pub use word::{MOST_OFFERS, MOST_ROWS, MOST_TENTHS, PlacedWord, RowHead, Word, decoding_is_exact};

@@ -4,119 +4,116 @@ ghost use Rattle.std.specs.Prelude.{◌≡◌};
 ghost use Rattle.words.specs.Operators.{bare_in, prefix_in, delay_in, restrict_in, relabel_in, operator_in};
 
 use crate::fault::WordFault;
+use crate::kind::Kind;
 use crate::term::{Delay, Operator};
-use crate::word::PAYLOADS;
+use crate::word::PlacedWord;
 
-// An operator with nothing in its payload.
-fn bare(word: u32, place: usize, found: Operator) -> Result<Operator, WordFault>
-    ensures { result ≡ bare_in found place word }
-{
-    if word % PAYLOADS != 0 {
-        return Err(WordFault::Form(place));
-    }
-    Ok(found)
-}
-
-// A prefix by a label, which is no tick.
-fn prefix(word: u32, place: usize) -> Result<Operator, WordFault>
-    ensures { result ≡ prefix_in place word }
-{
-    let label = word % PAYLOADS;
-    if label >= 256 {
-        return Err(WordFault::Form(place));
-    }
-    if label >= 128 || label == 64 {
-        return Err(WordFault::Range(place));
-    }
-    Ok(Operator::Prefix(label))
-}
-
-// A delay: the form in the payload's upper two bits, then how many prefixes
-// stand between in three, then the seconds.
-fn delay(word: u32, place: usize) -> Result<Operator, WordFault>
-    ensures { result ≡ delay_in place word }
-{
-    let payload = word % PAYLOADS;
-    let form = payload / 0x400_0000;
-    let between = payload % 0x400_0000 / 0x80_0000;
-    let seconds = payload % 0x80_0000;
-    if form == 0 && between != 0 {
-        return Err(WordFault::Form(place));
-    }
-    if seconds >= 4096 {
-        return Err(WordFault::Range(place));
-    }
-    match form {
-        0 => Ok(Operator::Delay(Delay::Constant(seconds))),
-        1 => Ok(Operator::Delay(Delay::Plus { between, seconds })),
-        2 => {
-            if seconds == 0 {
-                return Err(WordFault::Range(place));
-            }
-            Ok(Operator::Delay(Delay::Less { between, seconds }))
+impl PlacedWord {
+    // An operator with nothing in its payload.
+    fn bare(self, found: Operator) -> Result<Operator, WordFault>
+        ensures { result ≡ bare_in found self.place self.word }
+    {
+        if self.payload() != 0 {
+            return Err(self.ill_formed());
         }
-        _ => Err(WordFault::Range(place)),
+        Ok(found)
     }
-}
 
-// A restriction of a name.
-fn restrict(word: u32, place: usize) -> Result<Operator, WordFault>
-    ensures { result ≡ restrict_in place word }
-{
-    let name = word % PAYLOADS;
-    if name >= 64 {
-        return Err(WordFault::Form(place));
+    // A prefix by a label, which is no tick.
+    fn prefix(self) -> Result<Operator, WordFault>
+        ensures { result ≡ prefix_in self.place self.word }
+    {
+        let label = self.payload();
+        if label >= 256 {
+            return Err(self.ill_formed());
+        }
+        if label >= 128 || label == 64 {
+            return Err(self.out_of_range());
+        }
+        Ok(Operator::Prefix(label))
     }
-    if name == 0 {
-        return Err(WordFault::Range(place));
-    }
-    Ok(Operator::Restrict(name))
-}
 
-// A relabelling of one name, in the lower six bits, to another.
-fn relabel(word: u32, place: usize) -> Result<Operator, WordFault>
-    ensures { result ≡ relabel_in place word }
-{
-    let payload = word % PAYLOADS;
-    if payload >= 4096 {
-        return Err(WordFault::Form(place));
+    // A delay: the form in the payload's upper two bits, then how many prefixes
+    // stand between in three, then the seconds.
+    fn delay(self) -> Result<Operator, WordFault>
+        ensures { result ≡ delay_in self.place self.word }
+    {
+        let payload = self.payload();
+        let form = payload / 0x400_0000;
+        let between = payload % 0x400_0000 / 0x80_0000;
+        let seconds = payload % 0x80_0000;
+        if form == 0 && between != 0 {
+            return Err(self.ill_formed());
+        }
+        if seconds >= 4096 {
+            return Err(self.out_of_range());
+        }
+        match form {
+            0 => Ok(Operator::Delay(Delay::Constant(seconds))),
+            1 => Ok(Operator::Delay(Delay::Plus { between, seconds })),
+            2 if seconds > 0 => Ok(Operator::Delay(Delay::Less { between, seconds })),
+            _ => Err(self.out_of_range()),
+        }
     }
-    let from = payload % 64;
-    let to = payload / 64;
-    if from == 0 || to == 0 {
-        return Err(WordFault::Range(place));
-    }
-    Ok(Operator::Relabel { from, to })
-}
 
-// An operator of a term.
-pub fn operator(word: u32, place: usize) -> Result<Operator, WordFault>
-    ensures { result ≡ operator_in place word }
-{
-    match word / PAYLOADS {
-        0 => bare(word, place, Operator::Nil),
-        1 => prefix(word, place),
-        2 => delay(word, place),
-        3 => bare(word, place, Operator::Sum),
-        4 => bare(word, place, Operator::Compose),
-        5 => restrict(word, place),
-        6 => relabel(word, place),
-        7 => Ok(Operator::Refer(word % PAYLOADS)),
-        _ => Err(WordFault::Form(place)),
+    // A restriction of a name.
+    fn restrict(self) -> Result<Operator, WordFault>
+        ensures { result ≡ restrict_in self.place self.word }
+    {
+        let name = self.payload();
+        if name >= 64 {
+            return Err(self.ill_formed());
+        }
+        if name == 0 {
+            return Err(self.out_of_range());
+        }
+        Ok(Operator::Restrict(name))
+    }
+
+    // A relabelling of one name, in the lower six bits, to another.
+    fn relabel(self) -> Result<Operator, WordFault>
+        ensures { result ≡ relabel_in self.place self.word }
+    {
+        let payload = self.payload();
+        if payload >= 4096 {
+            return Err(self.ill_formed());
+        }
+        let from = payload % 64;
+        let to = payload / 64;
+        if from == 0 || to == 0 {
+            return Err(self.out_of_range());
+        }
+        Ok(Operator::Relabel { from, to })
+    }
+
+    // An operator of a term.
+    pub fn operator(self) -> Result<Operator, WordFault>
+        ensures { result ≡ operator_in self.place self.word }
+    {
+        match self.kind() {
+            Kind::Nil => self.bare(Operator::Nil),
+            Kind::Prefix => self.prefix(),
+            Kind::Delay => self.delay(),
+            Kind::Sum => self.bare(Operator::Sum),
+            Kind::Compose => self.bare(Operator::Compose),
+            Kind::Restrict => self.restrict(),
+            Kind::Relabel => self.relabel(),
+            Kind::Refer => Ok(Operator::Refer(self.payload())),
+            _ => Err(self.ill_formed()),
+        }
     }
 }
 
 #[cfg(test)]
 mod tests {
     use super::*;
+    use lts::Refusal;
 
-    // The code of the fault in a word, or 0. The words below lie at the edges of
-    // the ranges.
-    fn code(word: u32) -> u32 {
-        match operator(word, 5) {
-            Ok(_) => 0,
-            Err(fault) => fault.code(),
-        }
+    // The code of the fault in a word, if there is one. The words below lie at the
+    // edges of the ranges.
+    fn code(word: u32) -> Option<u32> {
+        let fault = PlacedWord { word, place: 5 }.operator().err()?;
+        Some(fault.code())
     }
 
     #[test]
@@ -135,7 +132,7 @@ mod tests {
             0x6000_0FFF,
             0x7FFF_FFFF,
         ] {
-            assert_eq!(rt; code(*word), 0);
+            assert_eq!(rt; code(*word), None);
         }
     }
 
@@ -151,7 +148,7 @@ mod tests {
             0x6000_1041,
             0x8000_0000,
         ] {
-            assert_eq!(rt; code(*word), 2);
+            assert_eq!(rt; code(*word), Some(2));
         }
     }
 
@@ -167,19 +164,20 @@ mod tests {
             0x6000_003F,
             0x6000_0FC0,
         ] {
-            assert_eq!(rt; code(*word), 3);
+            assert_eq!(rt; code(*word), Some(3));
         }
     }
 
     #[test]
     fn fields(rt: HostRuntime) {
+        let at = |word| PlacedWord { word, place: 5 };
         let delay = Delay::Less {
             between: 1,
             seconds: 2,
         };
-        assert_eq!(rt; operator(0x2880_0002, 5), Ok(Operator::Delay(delay)));
+        assert_eq!(rt; at(0x2880_0002).operator(), Ok(Operator::Delay(delay)));
         assert_eq!(rt;
-            operator(0x6000_0FC1, 5),
+            at(0x6000_0FC1).operator(),
             Ok(Operator::Relabel { from: 1, to: 63 })
         );
     }

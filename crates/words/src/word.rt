@@ -4,21 +4,26 @@
 ghost use Rattle.std.specs.Prelude.{◌≡◌};
 ghost use Rattle.words.specs.Decoded.{decoded};
 ghost use Rattle.words.specs.Encoded.{DecodingIsExact};
-ghost use Rattle.words.specs.Words.{counted as counted_in, definitions_in, states_in, moves_in, rows_in, offers_in, arrow_in, row_in};
+ghost use Rattle.words.specs.Kinds.{number};
+ghost use Rattle.words.specs.Words.{kind as kind_of, payload as payload_of, counted as counted_in, definitions_in, states_in, moves_in, rows_in, offers_in, arrow_in, row_in};
+ghost use Rattle.words.specs.declared.fault.WordFault.TheVariants.{Form, Range};
 
 use crate::fault::WordFault;
-use crate::operators::operator;
+use crate::kind::{Kind, PAYLOADS};
 use crate::term::Operator;
-use lts::{MOST_STATES, Move, is_label};
-
-// How many payloads there are: the kind stands above the lower 28 bits.
-pub(crate) const PAYLOADS: u32 = 0x1000_0000;
+use lts::{MOST_MOVES, MOST_STATES, Move, is_label};
 
 // The longest dwell of a chart's row, in tenths of a second.
 pub const MOST_TENTHS: u32 = 40_959;
 
 // The most rows of a chart.
 pub const MOST_ROWS: u32 = 256;
+
+// The most offers of a chart's row.
+pub const MOST_OFFERS: u32 = 62;
+
+// The most definitions of a book.
+const MOST_DEFINITIONS: u32 = 256;
 
 // The head of a chart's row: its dwell in tenths of a second, or that it does
 // not end.
@@ -41,109 +46,135 @@ pub enum Word {
     Offers(u32),
 }
 
-// A number from `least` to `most`, in a word of the kind that is due.
-fn counted(word: u32, place: usize, due: u32, least: u32, most: u32) -> Result<u32, WordFault>
-    ensures { result ≡ counted_in due least most place word }
-{
-    if word / PAYLOADS != due {
-        return Err(WordFault::Form(place));
+// A word and its place in the file, counted from 0.
+#[derive(Clone, Copy, PartialEq, Debug)]
+pub struct PlacedWord {
+    pub word: u32,
+    pub place: usize,
+}
+
+impl PlacedWord {
+    pub(crate) fn kind(self) -> Kind
+        ensures { number result ≡ kind_of self.word }
+    {
+        Kind::of(self.word)
     }
-    let payload = word % PAYLOADS;
-    if payload < least || payload > most {
-        return Err(WordFault::Range(place));
+
+    // All of the word but its kind.
+    pub(crate) fn payload(self) -> u32
+        ensures { result ≡ payload_of self.word }
+    {
+        self.word % PAYLOADS
     }
-    Ok(payload)
-}
 
-// The number of definitions.
-pub fn definitions(word: u32, place: usize) -> Result<u32, WordFault>
-    ensures { result ≡ definitions_in place word }
-{
-    counted(word, place, 8, 0, 256)
-}
-
-// The number of states.
-pub fn states(word: u32, place: usize) -> Result<u32, WordFault>
-    ensures { result ≡ states_in place word }
-{
-    counted(word, place, 9, 1, MOST_STATES)
-}
-
-// The number of moves of a state.
-pub fn moves(word: u32, place: usize) -> Result<u32, WordFault>
-    ensures { result ≡ moves_in place word }
-{
-    counted(word, place, 10, 1, 64)
-}
-
-// The number of rows of a chart.
-pub fn rows(word: u32, place: usize) -> Result<u32, WordFault>
-    ensures { result ≡ rows_in place word }
-{
-    counted(word, place, 12, 1, MOST_ROWS)
-}
-
-// The number of offers of a row.
-pub fn offers(word: u32, place: usize) -> Result<u32, WordFault>
-    ensures { result ≡ offers_in place word }
-{
-    counted(word, place, 15, 0, 62)
-}
-
-// A word B, here called an arrow: a move with its label in the upper eight bits
-// of the payload and its target below.
-pub fn arrow(word: u32, place: usize) -> Result<Move<u32>, WordFault>
-    ensures { result ≡ arrow_in place word }
-{
-    if word / PAYLOADS != 11 {
-        return Err(WordFault::Form(place));
+    // The fault that another kind is due, or an unused bit is set.
+    pub(crate) fn ill_formed(self) -> WordFault
+        ensures { result ≡ Form self.place }
+    {
+        WordFault::Form(self.place)
     }
-    let payload = word % PAYLOADS;
-    let label = payload / 0x10_0000;
-    if !is_label(label) {
-        return Err(WordFault::Range(place));
-    }
-    Ok(Move {
-        label,
-        target: payload % 0x10_0000,
-    })
-}
 
-// The head of a chart's row.
-pub fn row(word: u32, place: usize) -> Result<RowHead, WordFault>
-    ensures { result ≡ row_in place word }
-{
-    let payload = word % PAYLOADS;
-    match word / PAYLOADS {
-        13 => {
-            if payload > MOST_TENTHS {
-                return Err(WordFault::Range(place));
-            }
-            Ok(RowHead::Dwell(payload))
+    // The fault that a field is out of range.
+    pub(crate) fn out_of_range(self) -> WordFault
+        ensures { result ≡ Range self.place }
+    {
+        WordFault::Range(self.place)
+    }
+
+    // A number from `least` to `most`, in a word of the kind that is due.
+    fn counted(self, due: Kind, least: u32, most: u32) -> Result<u32, WordFault>
+        ensures { result ≡ counted_in (number due) least most self.place self.word }
+    {
+        if self.kind() != due {
+            return Err(self.ill_formed());
         }
-        14 => {
-            if payload != 0 {
-                return Err(WordFault::Form(place));
-            }
-            Ok(RowHead::Endless)
+        let payload = self.payload();
+        if payload < least || payload > most {
+            return Err(self.out_of_range());
         }
-        _ => Err(WordFault::Form(place)),
+        Ok(payload)
     }
-}
 
-// What a word says by itself, by its kind.
-pub fn decode(word: u32, place: usize) -> Result<Word, WordFault>
-    ensures { result ≡ decoded place word }
-{
-    match word / PAYLOADS {
-        0..=7 => Ok(Word::Operator(operator(word, place)?)),
-        8 => Ok(Word::Definitions(definitions(word, place)?)),
-        9 => Ok(Word::States(states(word, place)?)),
-        10 => Ok(Word::Moves(moves(word, place)?)),
-        11 => Ok(Word::Move(arrow(word, place)?)),
-        12 => Ok(Word::Rows(rows(word, place)?)),
-        13 | 14 => Ok(Word::Row(row(word, place)?)),
-        _ => Ok(Word::Offers(offers(word, place)?)),
+    // The number of definitions.
+    pub fn definitions(self) -> Result<u32, WordFault>
+        ensures { result ≡ definitions_in self.place self.word }
+    {
+        self.counted(Kind::Definitions, 0, MOST_DEFINITIONS)
+    }
+
+    // The number of states.
+    pub fn states(self) -> Result<u32, WordFault>
+        ensures { result ≡ states_in self.place self.word }
+    {
+        self.counted(Kind::States, 1, MOST_STATES)
+    }
+
+    // The number of moves of a state.
+    pub fn moves(self) -> Result<u32, WordFault>
+        ensures { result ≡ moves_in self.place self.word }
+    {
+        self.counted(Kind::Moves, 1, MOST_MOVES)
+    }
+
+    // The number of rows of a chart.
+    pub fn rows(self) -> Result<u32, WordFault>
+        ensures { result ≡ rows_in self.place self.word }
+    {
+        self.counted(Kind::Rows, 1, MOST_ROWS)
+    }
+
+    // The number of offers of a row.
+    pub fn offers(self) -> Result<u32, WordFault>
+        ensures { result ≡ offers_in self.place self.word }
+    {
+        self.counted(Kind::Offers, 0, MOST_OFFERS)
+    }
+
+    // A word B, here called an arrow: a move with its label in the upper eight bits
+    // of the payload and its target below.
+    pub fn arrow(self) -> Result<Move<u32>, WordFault>
+        ensures { result ≡ arrow_in self.place self.word }
+    {
+        if self.kind() != Kind::Arrow {
+            return Err(self.ill_formed());
+        }
+        let label = self.payload() / 0x10_0000;
+        if !is_label(label) {
+            return Err(self.out_of_range());
+        }
+        Ok(Move {
+            label,
+            target: self.payload() % 0x10_0000,
+        })
+    }
+
+    // The head of a chart's row.
+    pub fn row(self) -> Result<RowHead, WordFault>
+        ensures { result ≡ row_in self.place self.word }
+    {
+        let payload = self.payload();
+        match self.kind() {
+            Kind::Dwell if payload > MOST_TENTHS => Err(self.out_of_range()),
+            Kind::Dwell => Ok(RowHead::Dwell(payload)),
+            Kind::Endless if payload == 0 => Ok(RowHead::Endless),
+            _ => Err(self.ill_formed()),
+        }
+    }
+
+    // What a word says by itself, by its kind.
+    pub fn decode(self) -> Result<Word, WordFault>
+        ensures { result ≡ decoded self.place self.word }
+    {
+        match self.kind() {
+            Kind::Definitions => Ok(Word::Definitions(self.definitions()?)),
+            Kind::States => Ok(Word::States(self.states()?)),
+            Kind::Moves => Ok(Word::Moves(self.moves()?)),
+            Kind::Arrow => Ok(Word::Move(self.arrow()?)),
+            Kind::Rows => Ok(Word::Rows(self.rows()?)),
+            Kind::Dwell | Kind::Endless => Ok(Word::Row(self.row()?)),
+            Kind::Offers => Ok(Word::Offers(self.offers()?)),
+            _ => Ok(Word::Operator(self.operator()?)),
+        }
     }
 }
 
@@ -156,14 +187,13 @@ pub fn decoding_is_exact()
 #[cfg(test)]
 mod tests {
     use super::*;
+    use lts::Refusal;
 
-    // The code of the fault in a word, or 0. The words below lie at the edges of
-    // the ranges.
-    fn code(word: u32) -> u32 {
-        match decode(word, 5) {
-            Ok(_) => 0,
-            Err(fault) => fault.code(),
-        }
+    // The code of the fault in a word, if there is one. The words below lie at the
+    // edges of the ranges.
+    fn code(word: u32) -> Option<u32> {
+        let fault = PlacedWord { word, place: 5 }.decode().err()?;
+        Some(fault.code())
     }
 
     #[test]
@@ -186,7 +216,7 @@ mod tests {
             0xF000_0000,
             0xF000_003E,
         ] {
-            assert_eq!(rt; code(*word), 0);
+            assert_eq!(rt; code(*word), None);
         }
     }
 
@@ -205,21 +235,22 @@ mod tests {
             0xD000_A000,
             0xF000_003F,
         ] {
-            assert_eq!(rt; code(*word), 3);
+            assert_eq!(rt; code(*word), Some(3));
         }
     }
 
     #[test]
     fn fields(rt: HostRuntime) {
-        assert_eq!(rt; states(0x8000_0001, 2), Err(WordFault::Form(2)));
+        let at = |word| PlacedWord { word, place: 2 };
+        assert_eq!(rt; at(0x8000_0001).states(), Err(WordFault::Form(2)));
         assert_eq!(rt;
-            arrow(0xB410_0007, 2),
+            at(0xB410_0007).arrow(),
             Ok(Move {
                 label: 65,
                 target: 7,
             })
         );
-        assert_eq!(rt; row(0xE000_0001, 2), Err(WordFault::Form(2)));
-        assert_eq!(rt; row(0xF000_0000, 2), Err(WordFault::Form(2)));
+        assert_eq!(rt; at(0xE000_0001).row(), Err(WordFault::Form(2)));
+        assert_eq!(rt; at(0xF000_0000).row(), Err(WordFault::Form(2)));
     }
 }
