@@ -14,6 +14,7 @@ pub const CO: u32 = 64;
 pub const TICK: u32 = 128;
 
 // Whether `a` is a label at all.
+#[tactic(auto, unfolding(crate::specs::Labels::label))]
 pub fn is_label(a: u32) -> bool
     ensures { result ≡ label a }
 {
@@ -21,6 +22,7 @@ pub fn is_label(a: u32) -> bool
 }
 
 // Whether `a` is a name or a co-name.
+#[tactic(auto, unfolding(crate::specs::Labels::visible))]
 pub fn is_visible(a: u32) -> bool
     ensures { result ≡ visible a }
 {
@@ -28,6 +30,7 @@ pub fn is_visible(a: u32) -> bool
 }
 
 // Whether `a` and `b` are a name and its own co-name, in either order.
+#[tactic(auto, unfolding(crate::specs::Labels::visible, crate::specs::Labels::matching))]
 pub fn matches(a: u32, b: u32) -> bool
     ensures { result ≡ matching a b }
 {
@@ -36,6 +39,7 @@ pub fn matches(a: u32, b: u32) -> bool
 
 // The one label that matches `a`: a name's co-name, a co-name's name. Nothing
 // matches τ or the tick.
+#[tactic(auto, unfolding(crate::specs::Labels::partner))]
 pub fn partner(a: u32) -> Option<u32>
     ensures { result ≡ (if visible a then Some (matching_label a) else None) }
 {

@@ -42,6 +42,7 @@ impl<'a, S: Source> State<'a, S> {
     }
 
     // How many moves it has.
+    #[tactic(auto, using(crate::proofs::Asked::was_counted, crate::proofs::Asked::was_not_counted))]
     pub fn move_count(&self) -> u32
         ensures { result ≡ length ((S.meaning self.now.source.now).moves self.now.number) }
     {
@@ -63,6 +64,7 @@ impl<'a, S: Source> State<'a, S> {
     }
 
     // Where its tick leads, if it has one.
+    #[tactic(auto, using(crate::proofs::Asked::was_ticked, crate::proofs::Asked::was_not_ticked))]
     pub fn tick(&self) -> Option<u32>
         ensures { result ≡ tick_of ((S.meaning self.now.source.now).moves self.now.number) }
     {
@@ -80,6 +82,7 @@ impl<'a, S: Source> Iterator for Moves<'a, S> {
 
     ghost remaining = { item_count (λ m. drop m.next ((S.Source.meaning m.source.now).moves m.number)) };
 
+    #[tactic(auto, using(crate::proofs::Walking::none_left, crate::proofs::Walking::one_left, crate::proofs::Walking::few_found))]
     fn next(&mut self) -> Option<Move<u32>> {
         let Ok(step) = self.source.move_at(self.number, self.next) else {
             return None;
