@@ -1,13 +1,10 @@
 -- What the questions of a source are answered, in range and out of it.
-use Rattle.std.proofs.Common.{◌≡◌, ℕ, ◌<◌, ◌≤◌, ◌&&◌, ltb, ◌⊎◌, length, get_or, Ok, Err, Option, inl, inr, arith}
+use Rattle.std.proofs.Common.{◌≡◌, ℕ, ◌<◌, ◌≤◌, ◌&&◌, ltb, ◌⊎◌, length, get_or, Ok, Err, Option, inl, inr}
 use Rattle.std.proofs.lemmas.Bool.{cond-true, cond-false, and_from, and_left, and_right, lt-ltb, le-ltb, cases_lt}
 use Rattle.lts.specs.declared.source.Move.{Move}
 use Rattle.lts.specs.declared.source.OutOfRange.{OutOfRange}
 use Rattle.lts.specs.Answers.{out_of_range, tick_of, move_count, nth_move, tick_target}
-use Rattle.lts.specs.Meaning.{Meaning}
-
-abbrev pub no_move : Move ℕ
-no_move = record { label = 0; target = 0 }
+use Rattle.lts.specs.Meaning.{Meaning, no_move}
 
 module _ (m : Meaning) (s : ℕ) where
   pub counted : s < m.count → move_count m s ≡ Ok (length (m.moves s))
@@ -46,30 +43,30 @@ module _ (m : Meaning) (s : ℕ) where
   was_counted n e =
       elim (cases_lt s m.count) [
         | inl h ↦ (h, (let f = counted h in cc))
-        | inr h ↦ (let f = not_counted h in let z : ◌≡◌ {A = ℕ} 0 1 = cc in absurd (omega arith))
+        | inr h ↦ (let f = not_counted h in cc)
       ]
 
   pub was_not_counted : (x : OutOfRange) → Err x ≡ move_count m s → m.count ≤ s
   was_not_counted x e =
-      elim (cases_lt s m.count) [ inl h ↦ (let f = counted h in let z : ◌≡◌ {A = ℕ} 0 1 = cc in absurd (omega arith)) | inr h ↦ h ]
+      elim (cases_lt s m.count) [ inl h ↦ (let f = counted h in cc) | inr h ↦ h ]
 
   pub was_ticked : (o : Option ℕ) → Ok o ≡ tick_target m s → (s < m.count) × (o ≡ tick_of (m.moves s))
   was_ticked o e =
       elim (cases_lt s m.count) [
         | inl h ↦ (h, (let f = ticked h in cc))
-        | inr h ↦ (let f = not_ticked h in let z : ◌≡◌ {A = ℕ} 0 1 = cc in absurd (omega arith))
+        | inr h ↦ (let f = not_ticked h in cc)
       ]
 
   pub was_not_ticked : (x : OutOfRange) → Err x ≡ tick_target m s → m.count ≤ s
   was_not_ticked x e =
-      elim (cases_lt s m.count) [ inl h ↦ (let f = ticked h in let z : ◌≡◌ {A = ℕ} 0 1 = cc in absurd (omega arith)) | inr h ↦ h ]
+      elim (cases_lt s m.count) [ inl h ↦ (let f = ticked h in cc) | inr h ↦ h ]
 
   -- a move that is there is found and never refused
   pub was_found : (k : ℕ) (x : Move ℕ) → s < m.count → k < length (m.moves s) → Ok x ≡ nth_move m s k → x ≡ get_or (m.moves s) k no_move
   was_found k x h l e = let f = found k h l in cc
 
   pub never_refused : (k : ℕ) (x : OutOfRange) → s < m.count → k < length (m.moves s) → Err x ≡ nth_move m s k → ⊥
-  never_refused k x h l e = let f = found k h l in let z : ◌≡◌ {A = ℕ} 0 1 = cc in omega arith
+  never_refused k x h l e = let f = found k h l in cc
 
   pub was_there : (k : ℕ) (x : Move ℕ) → Ok x ≡ nth_move m s k → (s < m.count) × (k < length (m.moves s))
   was_there k x e =
@@ -77,9 +74,9 @@ module _ (m : Meaning) (s : ℕ) where
         | inl h ↦
             elim (cases_lt k (length (m.moves s))) [
               | inl l ↦ (h, l)
-              | inr l ↦ (let f = past_moves k l in let z : ◌≡◌ {A = ℕ} 0 1 = cc in absurd (omega arith))
+              | inr l ↦ (let f = past_moves k l in cc)
             ]
-        | inr h ↦ (let f = no_state k h in let z : ◌≡◌ {A = ℕ} 0 1 = cc in absurd (omega arith))
+        | inr h ↦ (let f = no_state k h in cc)
       ]
 
   pub was_missing : (k : ℕ) (x : OutOfRange) → Err x ≡ nth_move m s k → (m.count ≤ s) ⊎ (length (m.moves s) ≤ k)

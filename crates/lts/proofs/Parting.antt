@@ -6,7 +6,7 @@ use Rattle.std.proofs.lemmas.List.{length-append, get_or_append_left, get_or_at}
 use Rattle.std.proofs.ByRecursion.{All-get_or, All-from_get_or, All-append, All-weaker}
 use Rattle.lts.specs.declared.source.Move.{Move}
 use Rattle.lts.specs.Labels.{label}
-use Rattle.lts.specs.Meaning.{Lawful, label_at}
+use Rattle.lts.specs.Meaning.{Lawful, no_move, label_at}
 use Rattle.lts.specs.Answers.{tick_of}
 use Rattle.lts.specs.Actions.{acts, actions, ticking}
 
@@ -27,9 +27,6 @@ pub record Parted (n : ℕ) (xs : List (Move ℕ)) (o : Option ℕ) : Type 0 whe
   pub inside : IfSome o (λ t. t < n)
   pub urgent : silent xs ≡ true → o ≡ None
   pub waits : silent xs ≡ false → (t : ℕ) × (o ≡ Some t)
-
-abbrev no_move : Move ℕ
-no_move = record { label = 0; target = 0 }
 
 abbrev NoTick : {S : Type 0} → Move S → Type 0
 NoTick m = m.label ≡ 128 → ⊥
@@ -117,7 +114,7 @@ silent_actions (m ∷ ms) =
 
 tick_at : (ms : List (Move ℕ)) (t : ℕ) → tick_of ms ≡ Some t → (k : ℕ) × (k < length ms) × (label_at ms k ≡ 128)
 unfolding tick_of
-tick_at [] t h = let z : ◌≡◌ {A = ℕ} 0 1 = cc in absurd (omega arith)
+tick_at [] t h = cc
 tick_at (m ∷ ms) t h =
     elim (cases_Bool (eqb m.label 128)) [
       | inl b ↦ (0, omega arith, eqb-true m.label 128 b)
@@ -129,11 +126,10 @@ unfolding tick_of
 no_tick_at [] h k l e = absurd (omega arith)
 no_tick_at (m ∷ ms) h zero l e =
     let f = sym (cond-true (eqb m.label 128) (Some m.target) (tick_of ms) (eq-eqb m.label 128 e)) ∙ h in
-    let z : ◌≡◌ {A = ℕ} 0 1 = cc in
-    omega arith
+    cc
 no_tick_at (m ∷ ms) h (suc k) l e =
     elim (cases_Bool (eqb m.label 128)) [
-      | inl b ↦ (let f = sym (cond-true (eqb m.label 128) (Some m.target) (tick_of ms) b) ∙ h in let z : ◌≡◌ {A = ℕ} 0 1 = cc in omega arith)
+      | inl b ↦ (let f = sym (cond-true (eqb m.label 128) (Some m.target) (tick_of ms) b) ∙ h in cc)
       | inr b ↦ no_tick_at ms (sym (cond-false (eqb m.label 128) (Some m.target) (tick_of ms) b) ∙ h) k (omega arith) e
     ]
 

@@ -6,8 +6,8 @@ use Rattle.std.proofs.lemmas.List.{drop_all}
 use Rattle.lts.specs.declared.source.Move.{Move}
 use Rattle.lts.specs.declared.source.OutOfRange.{OutOfRange}
 use Rattle.lts.specs.Answers.{nth_move}
-use Rattle.lts.specs.Meaning.{Meaning, Laws}
-use Rattle.lts.proofs.Asked.{no_move, was_there, was_found, was_missing}
+use Rattle.lts.specs.Meaning.{Meaning, Laws, no_move}
+use Rattle.lts.proofs.Asked.{was_there, was_found, was_missing}
 
 module _ (m : Meaning) (s : ℕ) (inside : s < m.count) (k : ℕ) where
   pub none_left : (x : OutOfRange) → Err x ≡ nth_move m s k → drop k (m.moves s) ≡ []

@@ -2,7 +2,7 @@
 use Rattle.std.specs.Prelude.{ℕ, cond, ◌&&◌, List, [], ◌∷◌, length, Some, None, Ok, Err, Option, Result, ◌==◌, nat_lt, slice_index_or}
 use Rattle.lts.specs.declared.source.Move.{Move}
 use Rattle.lts.specs.declared.source.OutOfRange.{OutOfRange}
-use Rattle.lts.specs.Meaning.{Meaning}
+use Rattle.lts.specs.Meaning.{Meaning, no_move}
 
 -- the number of the one refusal
 abbrev pub range_code : ℕ
@@ -21,7 +21,7 @@ move_count m s = cond (nat_lt s m.count) (Ok (length (m.moves s))) (Err out_of_r
 
 unfoldable pub nth_move : Meaning → ℕ → ℕ → Result (Move ℕ) OutOfRange
 nth_move m s k =
-    cond (nat_lt s m.count && nat_lt k (length (m.moves s))) (Ok (slice_index_or (m.moves s) k (record { label = 0; target = 0 }))) (Err out_of_range)
+    cond (nat_lt s m.count && nat_lt k (length (m.moves s))) (Ok (slice_index_or (m.moves s) k no_move)) (Err out_of_range)
 
 unfoldable pub tick_target : Meaning → ℕ → Result (Option ℕ) OutOfRange
 tick_target m s = cond (nat_lt s m.count) (Ok (tick_of (m.moves s))) (Err out_of_range)

@@ -15,12 +15,16 @@ pub record Meaning : Type 0 where
   pub count : ℕ
   pub moves : ℕ → List (Move ℕ)
 
+-- what a list is read as past its end
+abbrev pub no_move : Move ℕ
+no_move = record { label = 0; target = 0 }
+
 -- the label and the target of the k-th move of a list
 abbrev pub label_at : List (Move ℕ) → ℕ → ℕ
-label_at ms k = (slice_index_or ms k (record { label = 0; target = 0 })).label
+label_at ms k = (slice_index_or ms k no_move).label
 
 abbrev pub target_at : List (Move ℕ) → ℕ → ℕ
-target_at ms k = (slice_index_or ms k (record { label = 0; target = 0 })).target
+target_at ms k = (slice_index_or ms k no_move).target
 
 -- what holds of the moves of each state, where there are n states
 pub record Lawful (n : ℕ) (ms : List (Move ℕ)) : Type 0 where
