@@ -10,7 +10,7 @@ use Rattle.words.specs.declared.fault.WordFault.TheVariants.{Length, Form, Range
 use Rattle.words.specs.Faults.{fault_place}
 use Rattle.words.specs.Words.{kind, unused_bit}
 use Rattle.words.specs.Reading.{then, mapped}
-use Rattle.words.proofs.Results.{never_ok, same_ok, then_by, mapped_by}
+use Rattle.words.proofs.Results.{never_ok, same_ok, then_by, mapped_by, mapped_err}
 
 -- from the place of the first word, and the words, to what was read, or a fault
 abbrev pub Reader : Type 0 → Type 0
@@ -58,7 +58,7 @@ pub record Good {A : Type 0} (used : A → ℕ) (P : Reader A) : Type 0 where
   pub faults : (p : ℕ) (ws : List ℕ) (f : WordFault) → P p ws ≡ Err f → Stops P p ws f
 
 pub never_err : {X E P : Type 0} (e : E) (x : X) → ◌≡◌ {A = Result X E} (Ok x) (Err e) → P
-never_err e x p = never_ok e x (sym p)
+never_err e x p = cc
 
 -- nothing is read
 pub nothing : {A : Type 0} (used : A → ℕ) (a : A) → used a ≡ 0 → Good used (λ p ws. Ok a)
@@ -130,11 +130,8 @@ module _ {A : Type 0} (used : A → ℕ) (W : ℕ → ℕ → Result A WordFault
   local_one p [] a e v = never_ok _ a e
   local_one p (w ∷ ws) a e v = subst (λ j. one_word W p (take j (w ∷ ws) ++ v) ≡ Ok a) (sym (uses a)) e
 
-  same_err : (e f : WordFault) → ◌≡◌ {A = Result A WordFault} (Err e) (Err f) → e ≡ f
-  same_err e f q = cc
-
   faults_one : (p : ℕ) (ws : List ℕ) (f : WordFault) → one_word W p ws ≡ Err f → Stops (one_word W) p ws f
-  faults_one p [] f e = subst (λ (g : WordFault). Stops (one_word W) p [] g) (same_err (Length p) f e) (none p)
+  faults_one p [] f e = subst (λ (g : WordFault). Stops (one_word W) p [] g) (cc) (none p)
   faults_one p (w ∷ ws) f e = stops p w ws f (bad p w f e) e
 
   pub word_good : Good used (one_word W)
@@ -144,10 +141,6 @@ module _ {A : Type 0} (used : A → ℕ) (W : ℕ → ℕ → Result A WordFault
 module _ {A B : Type 0} (ua : A → ℕ) (ub : B → ℕ) (g : A → B) (P : Reader A) (uses : (a : A) → ub (g a) ≡ ua a) (G : Good ua P) where
   abbrev Named : ℕ → List ℕ → Result B WordFault
   Named p ws = mapped g (P p ws)
-
-  named_err : (r : Result A WordFault) (f : WordFault) → mapped g r ≡ Err f → r ≡ Err f
-  named_err (Ok a) f e = never_err f (g a) e
-  named_err (Err d) f e = cc
 
   why_named : (p : ℕ) (front : List ℕ) (w : ℕ) (f : WordFault) → Why P p front w f → Why Named p front w f
   why_named p front w (Length q) y = tt
@@ -175,7 +168,7 @@ module _ {A B : Type 0} (ua : A → ℕ) (ub : B → ℕ) (g : A → B) (P : Rea
     some = λ p. ap (mapped g) (G.some p);
     inside = λ p ws b e. mapped_by g (P p ws) b e (λ a q k. let h = G.inside p ws a q in let u = uses a in let m = ap ub k in omega arith);
     local = λ p ws b e v. mapped_by g (P p ws) b e (λ a q k. subst (λ (c : B). Named p (take (ub c) ws ++ v) ≡ Ok c) k (subst (λ j. Named p (take j ws ++ v) ≡ Ok (g a)) (sym (uses a)) (ap (mapped g) (G.local p ws a q v))));
-    faults = λ p ws f e. stops_named p ws f (G.faults p ws f (named_err (P p ws) f e));
+    faults = λ p ws f e. stops_named p ws f (G.faults p ws f (mapped_err g (P p ws) f (sym e)));
   }
 
 -- what is read after a fault is mended goes beyond it: had the words before it sufficed, there were no fault
@@ -344,11 +337,7 @@ module _ {A B C : Type 0} (ua : A → ℕ) (ub : B → ℕ) (uc : C → ℕ) (g 
 
   err_by : {X : Type 0} (p : ℕ) (ws : List ℕ) (r : Result A WordFault) (f : WordFault) → then r (λ a. mapped (g a) (Q a (p + ua a) (drop (ua a) ws))) ≡ Err f
       → (r ≡ Err f → X) → ((a : A) → r ≡ Ok a → Q a (p + ua a) (drop (ua a) ws) ≡ Err f → X) → X
-  err_by p ws (Ok a) f e k h = h a refl (mapped_back (Q a (p + ua a) (drop (ua a) ws)) e)
-    where
-      mapped_back : (r : Result B WordFault) → mapped (g a) r ≡ Err f → r ≡ Err f
-      mapped_back (Ok b) e = never_err f (g a b) e
-      mapped_back (Err d) e = cc
+  err_by p ws (Ok a) f e k h = h a refl (mapped_err (g a) (Q a (p + ua a) (drop (ua a) ws)) f (sym e))
   err_by p ws (Err d) f e k h = k (cc)
 
   pub both_good : Good uc Both

@@ -18,6 +18,7 @@ pub struct WordFile {
 }
 
 // Appends the words of `bytes`, for which there is room.
+#[tactic(auto, using(crate::proofs::Little::append_more))]
 fn append(words: &mut Vec<u32>, bytes: &[u8])
     requires { vec_len words.old + length bytes.now / 4 ≤ vec_capacity words.old }
     ensures items { words.new.items ≡ words.old.items ++ little bytes.now }
@@ -41,6 +42,7 @@ impl WordFile {
 
     // Puts the words of `bytes` here in place of those before, and says how many
     // they are. A refusal leaves the place as it was.
+    #[tactic(auto, using(crate::proofs::Little::length_little))]
     pub fn fill(&mut self, bytes: &[u8]) -> Result<usize, WordFault>
         ensures { MatchResult result
             (λ n. (words_of_bytes bytes.now ≡ Ok self.new.words.items) × (n ≡ length self.new.words.items))
