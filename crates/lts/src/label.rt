@@ -1,5 +1,7 @@
 // Labels are numbers: τ is 0, the names are 1 to 63, the co-name of the name n
-// is 64 + n, and the tick, a step of one second, is 128. 64 is no label.
+// is 64 + n, and the tick, a step of one second, is 128. 64 is no label. They are
+// no enum, since the subject defines them so: files, questions and answers have the
+// numbers, and what is asked of a label is asked of any number.
 
 ghost use Rattle.std.specs.Prelude.{◌≡◌, if◌then◌else◌, Some, None};
 ghost use Rattle.lts.specs.Labels.{label, visible, matching, partner as matching_label};

@@ -24,6 +24,7 @@ fn append(words: &mut Vec<u32>, bytes: &[u8])
     ensures items { words.new.items ≡ words.old.items ++ little bytes.now }
     ensures capacity { vec_capacity words.new ≡ vec_capacity words.old }
 {
+    // The pattern names the four bytes; slices from `chunks_exact` would be indexed.
     let mut left = bytes;
     while let [a, b, c, d, rest @ ..] = left {
         words.push_reserved(u32::from_le_bytes([*a, *b, *c, *d]));

@@ -48,6 +48,7 @@ impl PlacedWord {
         if seconds >= 4096 {
             return Err(self.out_of_range());
         }
+        // The form is a number here alone, where it becomes a case.
         match form {
             0 => Ok(Operator::Delay(Delay::Constant(seconds))),
             1 => Ok(Operator::Delay(Delay::Plus { between, seconds })),
@@ -107,15 +108,9 @@ impl PlacedWord {
 #[cfg(test)]
 mod tests {
     use super::*;
-    use lts::Refusal;
+    use crate::word::code;
 
-    // The code of the fault in a word, if there is one. The words below lie at the
-    // edges of the ranges.
-    fn code(word: u32) -> Option<u32> {
-        let fault = PlacedWord { word, place: 5 }.operator().err()?;
-        Some(fault.code())
-    }
-
+    // The words below lie at the edges of the ranges.
     #[test]
     fn in_range(rt: HostRuntime) {
         for word in &[
@@ -132,7 +127,7 @@ mod tests {
             0x6000_0FFF,
             0x7FFF_FFFF,
         ] {
-            assert_eq!(rt; code(*word), None);
+            assert_eq!(rt; code(*word, PlacedWord::operator), None);
         }
     }
 
@@ -148,7 +143,7 @@ mod tests {
             0x6000_1041,
             0x8000_0000,
         ] {
-            assert_eq!(rt; code(*word), Some(2));
+            assert_eq!(rt; code(*word, PlacedWord::operator), Some(2));
         }
     }
 
@@ -164,7 +159,7 @@ mod tests {
             0x6000_003F,
             0x6000_0FC0,
         ] {
-            assert_eq!(rt; code(*word), Some(3));
+            assert_eq!(rt; code(*word, PlacedWord::operator), Some(3));
         }
     }
 

@@ -26,7 +26,8 @@ pub const MOST_OFFERS: u32 = 62;
 const MOST_DEFINITIONS: u32 = 256;
 
 // The head of a chart's row: its dwell in tenths of a second, or that it does
-// not end.
+// not end. No Option, since a word of its own says the latter, and `None` would
+// read as if no word did.
 #[derive(Clone, Copy, PartialEq, Debug)]
 pub enum RowHead {
     Dwell(u32),
@@ -184,18 +185,23 @@ pub fn decoding_is_exact()
     ensures { DecodingIsExact }
 {}
 
+// The code of the fault that is read in the word, if it is one: what the tests look at.
+#[cfg(test)]
+pub(crate) fn code<T: Drop, F: FnOnce(PlacedWord) -> Result<T, WordFault>>(
+    word: u32,
+    read: F,
+) -> Option<u32>
+    requires { F.IsAlwaysCallable read }
+{
+    let fault = read(PlacedWord { word, place: 5 }).err()?;
+    Some(lts::Refusal::code(fault))
+}
+
 #[cfg(test)]
 mod tests {
     use super::*;
-    use lts::Refusal;
 
-    // The code of the fault in a word, if there is one. The words below lie at the
-    // edges of the ranges.
-    fn code(word: u32) -> Option<u32> {
-        let fault = PlacedWord { word, place: 5 }.decode().err()?;
-        Some(fault.code())
-    }
-
+    // The words below lie at the edges of the ranges.
     #[test]
     fn in_range(rt: HostRuntime) {
         for word in &[
@@ -216,7 +222,7 @@ mod tests {
             0xF000_0000,
             0xF000_003E,
         ] {
-            assert_eq!(rt; code(*word), None);
+            assert_eq!(rt; code(*word, PlacedWord::decode), None);
         }
     }
 
@@ -235,7 +241,7 @@ mod tests {
             0xD000_A000,
             0xF000_003F,
         ] {
-            assert_eq!(rt; code(*word), Some(3));
+            assert_eq!(rt; code(*word, PlacedWord::decode), Some(3));
         }
     }
 
