@@ -1,4 +1,3 @@
-pub mod Fencing
 pub mod Renaming
 pub mod Siding
 pub mod Pairing
