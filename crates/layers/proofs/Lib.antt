@@ -1,6 +1,7 @@
-pub mod Fencing
-pub mod Renaming
-pub mod Siding
-pub mod Pairing
-pub mod Picking
+pub mod Places
+pub mod Acting
+pub mod Tallying
+pub mod Meeting
+pub mod Listing
 pub mod Limits
+pub mod Renaming

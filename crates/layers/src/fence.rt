@@ -3,9 +3,8 @@ ghost use Rattle.layers.specs.Names.{in_set};
 ghost use Rattle.layers.specs.Fences.{fence_meaning};
 ghost use Rattle.layers.specs.FenceLaws.{fence_laws};
 
-use crate::known::known_move;
 use crate::names::{NameSet, NameSetFault};
-use lts::{Move, OutOfRange, Source};
+use lts::{Move, OutOfRange, Source, State};
 
 // A source behind a fence: the moves that carry a name of the set, or its
 // co-name, are dropped.
@@ -36,28 +35,15 @@ impl<S: Source> Source for Fence<S> {
     }
 
     fn move_count(&self, s: u32) -> Result<u32, OutOfRange> {
-        let mut count = 0;
-        for i in 0..self.source.move_count(s)? {
-            let step = known_move(&self.source, s, i);
-            if !self.names.holds(step.label) {
-                count += 1;
-            }
-        }
-        Ok(count)
+        let state = State::of(&self.source, s)?;
+        let kept = state.moves().filter(|step| !self.names.holds(step.label));
+        Ok(kept.count() as u32)
     }
 
     fn move_at(&self, s: u32, k: u32) -> Result<Move<u32>, OutOfRange> {
-        let mut left = k;
-        for i in 0..self.source.move_count(s)? {
-            let step = known_move(&self.source, s, i);
-            if !self.names.holds(step.label) {
-                if left == 0 {
-                    return Ok(step);
-                }
-                left -= 1;
-            }
-        }
-        Err(OutOfRange)
+        let state = State::of(&self.source, s)?;
+        let mut kept = state.moves().filter(|step| !self.names.holds(step.label));
+        kept.nth(k as usize).ok_or(OutOfRange)
     }
 
     fn tick(&self, s: u32) -> Result<Option<u32>, OutOfRange> {

@@ -3,7 +3,6 @@
 #![tactic(auto)]
 
 pub mod fence;
-mod known;
 mod names;
 pub mod pair;
 pub mod rename;

@@ -1,5 +1,8 @@
 -- What the questions of a source are answered, in range and out of it.
-use Rattle.std.proofs.Common.{◌≡◌, ℕ, ◌<◌, ◌≤◌, ◌&&◌, ltb, ◌⊎◌, length, get_or, Ok, Err, Option, inl, inr}
+use Rattle.std.proofs.Common.{◌≡◌, ℕ, ◌<◌, ◌≤◌, ◌&&◌, ltb, ◌⊎◌, length, get_or, Ok, Err, Option, inl, inr, sym, ap, ◌∙◌}
+use Rattle.std.proofs.lemmas.Option.{slice_get-get_or, slice_get_past}
+use Rattle.std.specs.List.{slice_get}
+use Rattle.std.specs.Option.{ok_or}
 use Rattle.std.proofs.lemmas.Bool.{cond-true, cond-false, and_from, and_left, and_right, lt-ltb, le-ltb, cases_lt}
 use Rattle.lts.specs.declared.source.Move.{Move}
 use Rattle.lts.specs.declared.source.OutOfRange.{OutOfRange}
@@ -84,4 +87,12 @@ module _ (m : Meaning) (s : ℕ) where
       elim (cases_lt s m.count) [
         | inl h ↦ elim (cases_lt k (length (m.moves s))) [ inl l ↦ absurd (never_refused k x h l e) | inr l ↦ inr l ]
         | inr h ↦ inl h
+      ]
+
+  -- the k-th move, if there is one, is what is answered at a state
+  pub nth_is : (k : ℕ) → s < m.count → ok_or (slice_get (m.moves s) k) out_of_range ≡ nth_move m s k
+  nth_is k h =
+      elim (cases_lt k (length (m.moves s))) [
+        | inl l ↦ ap (λ o. ok_or o out_of_range) (slice_get-get_or (m.moves s) k no_move l) ∙ sym (found k h l)
+        | inr l ↦ ap (λ o. ok_or o out_of_range) (slice_get_past (m.moves s) k l) ∙ sym (past_moves k l)
       ]

@@ -1,46 +1,25 @@
-use Rattle.std.proofs.Common.{sym, arith}
+use Rattle.std.proofs.Common.{ap, sym, ◌∙◌, arith, rules, tests}
+use Rattle.std.specs.Prelude.{drop}
+use Rattle.std.proofs.lemmas.Iterator.Consumers.{count_from_yields_List, YieldsList-from_filter, YieldsList-from_first, YieldsList-at}
 use Rattle.std.proofs.lemmas.Result.{err_from_is_err_and}
-use Rattle.lts.proofs.Asked.{was_counted, was_not_counted, not_counted}
+use Rattle.lts.specs.Restriction.{passes, restricted}
+use Rattle.lts.proofs.Asked.{counted, not_counted}
 use Rattle.layers.specs.Names.{in_set}
 use Rattle.layers.specs.Fences.{fence_meaning}
-use Rattle.layers.proofs.Fencing.{none_through, few_through, one_dropped, one_through, counts}
 use Rattle.layers.proofs.fence.FenceSource.move_count.Goals as goal
-use Rattle.layers.proofs.fence.FenceSource.move_count.Goals.{then-not-holds, else-not-holds}
 
-pub returns-in_err-i-end : goal.returns-in_err-i-end
-returns-in_err-i-end g c =
+pub returns-in_err-state : goal.returns-in_err-state
+returns-in_err-state g c =
     let me = c.args.self.now in
     let p = err_from_is_err_and c.from_residual.result c.from_residual.ensures.1 in
-    let h = was_not_counted (g.S.Source.meaning me.source) c.args.s c.in_err-i-end.field-0.0 c.in_err-i-end.ensures in
-    rw (p.1, p.2) (sym (not_counted (fence_meaning (in_set me.names.bits) (g.S.Source.meaning me.source)) c.args.s h))
-
-pub loop-i-init : goal.loop-i-init
-loop-i-init g c = none_through (in_set c.args.self.now.names.bits) ((g.S.Source.meaning c.args.self.now.source).moves c.args.s)
-
-pub known_move-step-requires : goal.known_move-step-requires
-known_move-step-requires g c =
-    let w = was_counted (g.S.Source.meaning c.args.self.now.source) c.args.s c.in_ok-i-end.i-end c.in_ok-i-end.ensures in
-    record { state = w.0; place = omega (arith, w.1) }
-
-pub overflow_add-count : goal.overflow_add-count
-overflow_add-count g c =
-    omega (arith, few_through (in_set c.args.self.now.names.bits) ((g.S.Source.meaning c.args.self.now.source).moves c.args.s) c.loop-i.i)
-
-pub loop-i-preserved : goal.loop-i-preserved
-loop-i-preserved g c =
-    let me = c.args.self.now in
-    let m = g.S.Source.meaning me.source in
-    let w = was_counted m c.args.s c.in_ok-i-end.i-end c.in_ok-i-end.ensures in
-    elim c.if-not-holds.branch [
-      | then-not-holds v ↦
-          (let o = one_through (in_set me.names.bits) (m.moves c.args.s) c.loop-i.i c.known_move-step.result (omega (arith, w.1)) c.known_move-step.ensures v.if-not-holds.ensures in omega (arith, v.count-is, o))
-      | else-not-holds v ↦
-          (let o = one_dropped (in_set me.names.bits) (m.moves c.args.s) c.loop-i.i c.known_move-step.result (omega (arith, w.1)) c.known_move-step.ensures v.if-not-holds.ensures in omega (arith, v.count-is, o))
-    ]
+    rw (p.1, p.2) (sym (not_counted (fence_meaning (in_set me.names.bits) (g.S.Source.meaning me.source)) c.args.s c.in_err-state.ensures))
 
 pub returns : goal.returns
+unfolding restricted
 returns g c =
     let me = c.args.self.now in
-    let m = g.S.Source.meaning me.source in
-    let w = was_counted m c.args.s c.in_ok-i-end.i-end c.in_ok-i-end.ensures in
-    counts (in_set me.names.bits) m c.args.s w.0 c.loop-i.count c.loop-i.i c.loop-i.invariant (omega (arith, w.1))
+    let names = in_set me.names.bits in
+    let state = c.in_ok-state.state in
+    let is = c.in_ok-state.ensures in
+    let n = count_from_yields_List _ c.count.result c.count.ensures.ran (YieldsList-from_filter _ (passes names) (YieldsList-at c.filter-kept.ensures.source (YieldsList-from_first (λ x. x) (λ m. drop m.next ((g.S.Source.meaning m.source.now).moves m.number)) _ c.moves.ensures)) c.filter-kept.ensures.closure (λ x r q k. search (rules, tests))) in
+    rw (n, is.0, is.1) (sym (counted (fence_meaning names (g.S.Source.meaning me.source)) c.args.s (omega (arith, state.inside, is.1, ap (λ v. (g.S.Source.meaning v).count) is.0))))

@@ -6,9 +6,9 @@ pub returns-in_err-label : goal.returns-in_err-label
 returns-in_err-label g c =
     let me = c.args.self.now in
     let p = err_from_is_err_and c.from_residual.result c.from_residual.ensures.1 in
-    rw (p.1, p.2) (rename_misses me.from me.to (g.S.Source.meaning me.source) c.args.s c.args.k c.in_err-label.field-0.0 c.in_err-label.ensures)
+    rw (p.1, p.2) (rename_misses me.names.from me.names.to (g.S.Source.meaning me.source) c.args.s c.args.k c.in_err-label.field-0.0 c.in_err-label.ensures)
 
 pub returns : goal.returns
 returns g c =
     let me = c.args.self.now in
-    rename_finds me.from me.to (g.S.Source.meaning me.source) c.args.s c.args.k c.in_ok-label.field-0 c.in_ok-label.ensures c.renamed.result c.renamed.ensures
+    rename_finds me.names.from me.names.to (g.S.Source.meaning me.source) c.args.s c.args.k c.in_ok-label.field-0 c.in_ok-label.ensures c.label.result c.label.ensures
