@@ -21,11 +21,13 @@ pub fn refusal_text<F: Refusal>(heap: Global, refusal: F) -> Result<String, Allo
 }
 
 // Appends the text of the source.
+#[tactic(auto, using(std::proofs::lemmas::Grind::common_steps), unfolding(crate::specs::Text::source_text, crate::specs::Text::lines))]
 fn add_source<S: Source>(text: &mut String, source: &S) -> Result<(), AllocError>
     ensures { OnOk result (string_bytes text.new ≡ string_bytes text.old ++ source_text (S.meaning source.now)) }
 {
     let count = source.states();
     writeln!(text, "states {count}")?;
+    // `s` is a state's own number, so the loop goes over numbers.
     for s in 0..count {
         let Ok(state) = State::of(source, s) else {
             unreachable()
@@ -46,7 +48,7 @@ fn add_line<S: Source>(text: &mut String, state: &State<'_, S>) -> Result<(), Al
     writeln!(text)
 }
 
-// Appends a move.
+// Appends a move. `Move` and `Display` are both of other crates, so this is no `impl`.
 fn add_move(text: &mut String, step: Move<u32>) -> Result<(), AllocError>
     ensures { OnOk result (string_bytes text.new ≡ string_bytes text.old ++ move_text step) }
 {
