@@ -8,31 +8,15 @@
 #![tactic(auto)]
 
 use anyhow::anyhow;
+use case_words::Run;
 
 mod over;
-
-fn add_word(bytes: &mut Vec<u8>, word: u32) -> anyhow::Result<()> {
-    for byte in word.to_le_bytes() {
-        bytes.push(byte)?;
-    }
-    Ok(())
-}
-
-// Adds what one token of a line stands for.
-fn add_token(bytes: &mut Vec<u8>, token: &str) -> anyhow::Result<()> {
-    let (word, count) = token.split_once('*').unwrap_or((token, "1"));
-    let word = u32::from_str_radix(word, 16)?;
-    for _ in 0..count.parse::<u32>()? {
-        add_word(bytes, word)?;
-    }
-    Ok(())
-}
 
 // The bytes of the file with these tokens.
 fn file_bytes(rt: &HostRuntime, tokens: &str) -> anyhow::Result<Vec<u8>> {
     let mut bytes = Vec::new(rt.alloc());
     for token in tokens.split_whitespace() {
-        add_token(&mut bytes, token)?;
+        token.parse::<Run>()?.append_to(&mut bytes)?;
     }
     Ok(bytes)
 }
@@ -59,31 +43,11 @@ fn main(rt: HostRuntime) -> anyhow::Result<()> {
 
 #[cfg(test)]
 mod tests {
+    use case_words::TWO_ROWS;
     use charts::Chart;
     use layers::{Fence, Pair};
-    use lts::{Move, Source};
+    use lts::{Move, OutOfRange, Source};
     use std::test::Fail;
-
-    // Row 0 dwells 2 seconds and offers 1; row 1 is endless and offers 65 and 2.
-    const TWO_ROWS: [u32; 9] = [
-        0xC000_0002,
-        0xD000_0014,
-        0xB000_0001,
-        0xF000_0001,
-        0xB010_0001,
-        0xE000_0000,
-        0xF000_0002,
-        0xB410_0000,
-        0xB020_0001,
-    ];
-
-    // The answer to the question for a move, or the number of its refusal.
-    fn asked<S: Source>(source: &S, s: u32, k: u32) -> Result<(u32, u32), u32> {
-        match source.move_at(s, k) {
-            Ok(Move { label, target }) => Ok((label, target)),
-            Err(refused) => Err(refused.code()),
-        }
-    }
 
     // The chart beside itself, 4 × 4 states, and the same behind a fence by the name 1.
     #[test]
@@ -96,16 +60,21 @@ mod tests {
         };
         assert_eq!(rt; pair.states(), 16);
         assert!(rt; pair.move_count(3) == Ok(4) && pair.move_count(16).is_err());
-        assert_eq!(rt; asked(&pair, 3, 3), Ok((0, 12)));
-        assert_eq!(rt; asked(&pair, 3, 4), Err(10));
-        assert_eq!(rt; asked(&pair, 16, 0), Err(10));
+        let step = Move {
+            label: 0,
+            target: 12,
+        };
+        assert_eq!(rt; pair.move_at(3, 3), Ok(step));
+        assert_eq!(rt; pair.move_at(3, 4), Err(OutOfRange));
+        assert_eq!(rt; pair.move_at(16, 0), Err(OutOfRange));
+        assert_eq!(rt; OutOfRange.code(), 10);
         assert!(rt; pair.tick(0) == Ok(Some(5)) && pair.tick(3) == Ok(None));
         assert!(rt; pair.tick(16).is_err());
         let Ok(fence) = Fence::new(pair, 2) else {
             return Err(Fail::new("the Fence is refused"));
         };
-        assert_eq!(rt; asked(&fence, 3, 1), Ok((0, 12)));
-        assert_eq!(rt; asked(&fence, 3, 2), Err(10));
+        assert_eq!(rt; fence.move_at(3, 1), Ok(step));
+        assert_eq!(rt; fence.move_at(3, 2), Err(OutOfRange));
         Ok(())
     }
 }

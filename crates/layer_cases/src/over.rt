@@ -5,8 +5,51 @@ use anyhow::anyhow;
 use charts::Chart;
 use layers::{Fence, Pair, Rename};
 use listing::{refusal_text, source_text};
-use lts::Source;
+use lts::{Refusal, Source};
+use std::str::FromStr;
 use words::WordFile;
+
+// A layer over the first chart of a line, or over both.
+#[derive(Clone, Copy)]
+enum Layer {
+    // A fence by the names whose bits these are.
+    Fence(u64),
+    Rename { from: u32, to: u32 },
+    Pair,
+    // A fence over the Pair of the first chart, renamed, and the second.
+    Pile { bits: u64, from: u32, to: u32 },
+}
+
+// A number of a layer, 0 where there is none.
+fn number(token: Option<&str>) -> anyhow::Result<u64> {
+    Ok(token.unwrap_or("0").parse()?)
+}
+
+impl FromStr for Layer {
+    type Err = anyhow::Error;
+
+    fn from_str(text: &str) -> anyhow::Result<Layer> {
+        let mut tokens = text.split_whitespace();
+        let kind = tokens.next().unwrap_or("");
+        let a = number(tokens.next())?;
+        let b = number(tokens.next())?;
+        let c = number(tokens.next())?;
+        match kind {
+            "fence" => Ok(Layer::Fence(a)),
+            "rename" => Ok(Layer::Rename {
+                from: a.try_into()?,
+                to: b.try_into()?,
+            }),
+            "pair" => Ok(Layer::Pair),
+            "pile" => Ok(Layer::Pile {
+                bits: a,
+                from: b.try_into()?,
+                to: c.try_into()?,
+            }),
+            _ => Err(anyhow!("no such layer")),
+        }
+    }
+}
 
 // The chart with the words of these tokens.
 fn chart(rt: &HostRuntime, tokens: &str) -> anyhow::Result<Chart> {
@@ -19,84 +62,48 @@ fn chart(rt: &HostRuntime, tokens: &str) -> anyhow::Result<Chart> {
     Ok(chart)
 }
 
-// The refusal of a layer.
-fn refusal(rt: &HostRuntime, code: u32, place: u32) -> anyhow::Result<String> {
-    Ok(refusal_text(rt.alloc(), code, place as usize)?)
-}
-
-fn fenced<S: Source + Drop>(rt: &HostRuntime, source: S, bits: u64) -> anyhow::Result<String> {
-    match Fence::new(source, bits) {
-        Ok(fence) => Ok(source_text(rt.alloc(), &fence)?),
-        Err(fault) => refusal(rt, fault.code(), fault.place()),
-    }
-}
-
-// Fence of Pair of Rename of the first chart, and the second.
-fn pile(
+// The listing of what was made, or why it was refused.
+fn shown<S: Source + Drop, F: Refusal>(
     rt: &HostRuntime,
-    charts: (Chart, Chart),
-    bits: u64,
-    from: u32,
-    to: u32,
+    made: Result<S, F>,
 ) -> anyhow::Result<String> {
-    let (first, second) = charts;
-    match Rename::new(first, from, to) {
-        Ok(renamed) => match Pair::new(renamed, second) {
-            Ok(pair) => fenced(rt, pair, bits),
-            Err(fault) => refusal(rt, fault.code(), fault.place()),
-        },
-        Err(fault) => refusal(rt, fault.code(), fault.place()),
+    match made {
+        Ok(source) => Ok(source_text(rt.alloc(), &source)?),
+        Err(fault) => Ok(refusal_text(rt.alloc(), fault)?),
     }
-}
-
-// A number of a layer, 0 where there is none.
-fn number(token: Option<&str>) -> anyhow::Result<u64> {
-    Ok(token.unwrap_or("0").parse::<u64>()?)
 }
 
 // The listing of the layer, or its refusal.
 fn listing(rt: &HostRuntime, layer: &str, charts: &str) -> anyhow::Result<String> {
-    let mut tokens = layer.split_whitespace();
-    let kind = tokens.next().unwrap_or("");
-    let a = number(tokens.next())?;
-    let b = number(tokens.next())?;
-    let c = number(tokens.next())?;
+    let layer = layer.parse::<Layer>()?;
     let (first, second) = charts.split_once('|').unwrap_or((charts, ""));
     let first = chart(rt, first)?;
-    match kind {
-        "fence" => fenced(rt, first, a),
-        "rename" => match Rename::new(first, u32::try_from(a)?, u32::try_from(b)?) {
-            Ok(renamed) => Ok(source_text(rt.alloc(), &renamed)?),
-            Err(fault) => refusal(rt, fault.code(), fault.place()),
-        },
-        "pair" => match Pair::new(first, chart(rt, second)?) {
-            Ok(pair) => Ok(source_text(rt.alloc(), &pair)?),
-            Err(fault) => refusal(rt, fault.code(), fault.place()),
-        },
-        "pile" => pile(
-            rt,
-            (first, chart(rt, second)?),
-            a,
-            u32::try_from(b)?,
-            u32::try_from(c)?,
-        ),
-        _ => Err(anyhow!("no such layer")),
+    match layer {
+        Layer::Fence(bits) => shown(rt, Fence::new(first, bits)),
+        Layer::Rename { from, to } => shown(rt, Rename::new(first, from, to)),
+        Layer::Pair => shown(rt, Pair::new(first, chart(rt, second)?)),
+        Layer::Pile { bits, from, to } => {
+            let second = chart(rt, second)?;
+            // The refusals are of three types; `?` would need one more, to join them.
+            match Rename::new(first, from, to) {
+                Ok(renamed) => match Pair::new(renamed, second) {
+                    Ok(pair) => shown(rt, Fence::new(pair, bits)),
+                    Err(fault) => Ok(refusal_text(rt.alloc(), fault)?),
+                },
+                Err(fault) => Ok(refusal_text(rt.alloc(), fault)?),
+            }
+        }
     }
 }
 
-// The listing in one line, or only its first line.
+// The listing in one line, or with `count` before the layer only its first line.
 pub(crate) fn outcome(rt: &HostRuntime, layer: &str, charts: &str) -> anyhow::Result<String> {
-    let (layer, most) = match layer.strip_prefix("count ") {
-        Some(layer) => (layer, 1),
-        None => (layer, usize::MAX),
-    };
-    let text = listing(rt, layer, charts)?;
-    let mut line = String::new(rt.alloc());
-    for (i, part) in text.as_str().lines().take(most).enumerate() {
-        if i > 0 {
-            line.push_str("; ")?;
-        }
-        line.push_str(part)?;
+    if let Some(layer) = layer.strip_prefix("count ") {
+        let text = listing(rt, layer, charts)?;
+        let first = text.as_str().lines().next().unwrap_or("");
+        return Ok(String::from_str(rt.alloc(), first)?);
     }
-    Ok(line)
+    let text = listing(rt, layer, charts)?;
+    let lines = text.as_str().lines().collect::<Vec<&str>>(rt.alloc())?;
+    Ok(lines.join(rt.alloc(), "; ")?)
 }

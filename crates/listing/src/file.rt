@@ -15,7 +15,7 @@ pub fn file_text(heap: Global, bytes: &[u8]) -> Result<String, AllocError>
     let mut file = WordFile::new(heap)?;
     match file.fill(bytes) {
         Ok(_) => chart_text(heap, file.words()),
-        Err(fault) => refusal_text(heap, fault.code(), fault.place()),
+        Err(fault) => refusal_text(heap, fault),
     }
 }
 
@@ -26,6 +26,6 @@ fn chart_text(heap: Global, words: &[u32]) -> Result<String, AllocError>
     let mut chart = Chart::new(heap)?;
     match chart.fill(words) {
         Ok(_) => source_text(heap, &chart),
-        Err(fault) => refusal_text(heap, fault.code(), fault.place()),
+        Err(fault) => refusal_text(heap, fault),
     }
 }

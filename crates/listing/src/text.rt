@@ -1,7 +1,7 @@
-ghost use Rattle.std.specs.Prelude.{◌≡◌, ◌<◌, ◌++◌, length, IfOk, string_bytes, OnOk, slice_index_or};
+ghost use Rattle.std.specs.Prelude.{◌≡◌, ◌++◌, IfOk, string_bytes, OnOk};
 ghost use Rattle.listing.specs.Text.{move_text, line_text, source_text, refusal_text};
 
-use lts::{Move, Source};
+use lts::{Move, Refusal, Source, State};
 use std::alloc::{AllocError, Global};
 
 // The text of a source: how many states it has, and then each state's line.
@@ -14,63 +14,44 @@ pub fn source_text<S: Source>(heap: Global, source: &S) -> Result<String, AllocE
 }
 
 // The line of a refusal: its code, and the place that it is about.
-pub fn refusal_text(heap: Global, code: u32, place: usize) -> Result<String, AllocError>
-    ensures { IfOk result (λ t. string_bytes t ≡ refusal_text code place) }
+pub fn refusal_text<F: Refusal>(heap: Global, refusal: F) -> Result<String, AllocError>
+    ensures { IfOk result (λ t. string_bytes t ≡ refusal_text (F.number refusal) (F.about refusal)) }
 {
-    format!(in heap; "refused {code} {place}\n")
+    format!(in heap; "refused {} {}\n", refusal.code(), refusal.place())
 }
 
 // Appends the text of the source.
+#[tactic(auto, using(std::proofs::lemmas::Grind::common_steps), unfolding(crate::specs::Text::source_text, crate::specs::Text::lines))]
 fn add_source<S: Source>(text: &mut String, source: &S) -> Result<(), AllocError>
     ensures { OnOk result (string_bytes text.new ≡ string_bytes text.old ++ source_text (S.meaning source.now)) }
 {
     let count = source.states();
     writeln!(text, "states {count}")?;
+    // `s` is a state's own number, so the loop goes over numbers.
     for s in 0..count {
-        add_line(text, source, s)?;
+        let Ok(state) = State::of(source, s) else {
+            unreachable()
+        };
+        add_line(text, &state)?;
     }
     Ok(())
 }
 
-// Appends the line of the state `s`.
-fn add_line<S: Source>(text: &mut String, source: &S, s: u32) -> Result<(), AllocError>
-    requires { s < (S.meaning source.now).count }
-    ensures { OnOk result (string_bytes text.new ≡ string_bytes text.old ++ line_text s ((S.meaning source.now).moves s)) }
+// Appends the line of a state.
+fn add_line<S: Source>(text: &mut String, state: &State<'_, S>) -> Result<(), AllocError>
+    ensures { OnOk result (string_bytes text.new ≡ string_bytes text.old ++ line_text state.now.number ((S.meaning state.now.source.now).moves state.now.number)) }
 {
-    write!(text, "{s}")?;
-    for k in 0..count_moves(source, s) {
-        add_move(text, pick_move(source, s, k))?;
+    write!(text, "{}", state.number())?;
+    for step in state.moves() {
+        add_move(text, step)?;
     }
     writeln!(text)
 }
 
-// Appends a move.
+// Appends a move. `Move` and `Display` are both of other crates, so this is no `impl`.
 fn add_move(text: &mut String, step: Move<u32>) -> Result<(), AllocError>
     ensures { OnOk result (string_bytes text.new ≡ string_bytes text.old ++ move_text step) }
 {
     let Move { label, target } = step;
     write!(text, " {label} {target}")
-}
-
-// How many moves the state `s` has.
-fn count_moves<S: Source>(source: &S, s: u32) -> u32
-    requires { s < (S.meaning source.now).count }
-    ensures { result ≡ length ((S.meaning source.now).moves s) }
-{
-    match source.move_count(s) {
-        Ok(count) => count,
-        Err(_) => unreachable(),
-    }
-}
-
-// The `k`-th move of the state `s`.
-fn pick_move<S: Source>(source: &S, s: u32, k: u32) -> Move<u32>
-    requires state { s < (S.meaning source.now).count }
-    requires place { k < length ((S.meaning source.now).moves s) }
-    ensures { result ≡ slice_index_or ((S.meaning source.now).moves s) k (record { label = 0; target = 0 }) }
-{
-    match source.move_at(s, k) {
-        Ok(step) => step,
-        Err(_) => unreachable(),
-    }
 }

@@ -32,25 +32,22 @@ fn add_file(rt: &HostRuntime, text: &mut String, path: &str) -> io::Result<()> {
 
 // The same; a file that cannot be read or listed is named on standard error.
 fn add_named(rt: &HostRuntime, text: &mut String, path: &str) -> io::Result<()> {
-    match add_file(rt, text, path) {
-        Ok(()) => Ok(()),
-        Err(error) => {
-            eprintln!(rt; "moves: {path}: {error}")?;
-            Err(error)
-        }
+    let added = add_file(rt, text, path);
+    if let Err(error) = &added {
+        eprintln!(rt; "moves: {path}: {error}")?;
     }
+    added
 }
 
 // The listings of all files that the arguments name.
 fn list_files(rt: &HostRuntime) -> io::Result<String> {
     let mut text = String::new(rt.alloc());
-    let mut named = false;
-    for path in env::args(rt)?.skip(1) {
-        named = true;
-        add_named(rt, &mut text, path.as_str())?;
-    }
-    if !named {
+    let mut paths = env::args(rt)?.skip(1).peekable();
+    if paths.peek().is_none() {
         add_named(rt, &mut text, DEFAULT)?;
+    }
+    for path in paths {
+        add_named(rt, &mut text, path.as_str())?;
     }
     Ok(text)
 }

@@ -1,8 +1,10 @@
-use Rattle.std.proofs.Common.{◌≡◌, ◌++◌, take, string_bytes}
+use Rattle.std.proofs.Common.{◌≡◌, ◌++◌, drop, string_bytes}
 use Rattle.std.specs.List.{flat_map}
 use Rattle.listing.specs.Text.{move_text}
 use Rattle.listing.proofs.text.add_line.Given as goal
 
-abbrev pub invariant-loop-k : goal.invariant-loop-k
-invariant-loop-k g l =
-    string_bytes l.text ≡ string_bytes l.initial.text ++ flat_map move_text (take l.k ((g.S.Source.meaning l.source).moves l.s))
+abbrev pub invariant-loop-step : goal.invariant-loop-step
+invariant-loop-step g l =
+    let left = drop l.step-iterator.next ((g.S.Source.meaning l.step-iterator.source.now).moves l.step-iterator.number) in
+    string_bytes l.text ++ flat_map move_text left
+    ≡ string_bytes l.initial.text ++ flat_map move_text ((g.S.Source.meaning l.state.source.now).moves l.state.number)
