@@ -2,7 +2,6 @@
 use Rattle.std.specs.Prelude.{◌≡◌, ℕ, zero, suc, ◌+◌, ◌^◌, ◌<◌, ◌≤◌, true, cond, ◌&&◌, List, [], ◌∷◌, ◌++◌, map, length, drop, Ok, Err, ◌==◌, nat_le, nat_lt, refl}
 use Rattle.std.proofs.Common.{sym, ap, ap₂, subst, ◌∙◌, arith}
 use Rattle.std.proofs.lemmas.Bool.{cond-true, and_from, and_parts, ltb-true, leb-true, eqb-true, le-leb}
-use Rattle.std.proofs.lemmas.Bool.Decides.{nat_tests}
 use Rattle.std.proofs.lemmas.List.{append_assoc, length-append, length-map, drop_at, drop-drop}
 use Rattle.lts.specs.declared.source.Move.{Move}
 use Rattle.lts.specs.Labels.{label, visible}
@@ -18,6 +17,7 @@ use Rattle.charts.specs.declared.row.Offer.{Offer}
 use Rattle.charts.specs.Rows.{Row, stay_words, offer_fits, stay_fits, offers_fit, row_fits, rows_fit}
 use Rattle.words.specs.Reading.{then, mapped}
 use Rattle.charts.specs.Reading.{timeout_in, offer_in, read_timeout, read_head, read_stay, read_count, read_offers, read_row, read_rows, row_words, rows_words}
+use Rattle.charts.specs.Laws.{visible_is_label}
 use Rattle.charts.specs.Encoding.{offer_word, stay_encoded, row_encoded, rows_encoded}
 use Rattle.words.proofs.Results.{then_ok, then_by, mapped_ok, mapped_by, passed, never_ok, same_ok}
 
@@ -55,17 +55,13 @@ offers_exact n p (suc k) (w ∷ ws) os e =
     subst (λ (v : List Offer). (length v ≡ suc k) × (offers_fit n v ≡ true) × Begins (map offer_word v) (w ∷ ws)) b.1.1
     (ap suc y.0, and_from _ _ x.1 y.1, ap₂ ◌∷◌ (sym x.0) y.2)
 
-visible_label : (a : ℕ) → visible a ≡ true → label a ≡ true
-unfolding visible label
-visible_label a h = grind (arith, nat_tests)
-
 pub offer_back : (n p : ℕ) (o : Offer) → n ≤ 256 → offer_fits n o ≡ true → offer_in n p (offer_word o) ≡ Ok o
 offer_back n p o few h =
     let v = (and_parts (visible o.label) (nat_lt o.row n) h).0 in
     let l = ltb-true o.row n (and_parts (visible o.label) (nat_lt o.row n) h).1 in
     let small : o.row < 2 ^ 20 = omega arith in
     let m : Move ℕ = record { label = o.label; target = o.row } in
-    ap (λ r. then r (λ m. cond (visible m.label && nat_lt m.target n) (Ok (offer_of m)) (Err (Range p)))) (arrow_back p m (visible_label o.label v, small))
+    ap (λ r. then r (λ m. cond (visible m.label && nat_lt m.target n) (Ok (offer_of m)) (Err (Range p)))) (arrow_back p m (visible_is_label o.label v, small))
     ∙ cond-true (visible o.label && nat_lt o.row n) (Ok o) (Err (Range p)) h
 
 pub offers_back : (n p : ℕ) (os : List Offer) (ws : List ℕ) → n ≤ 256 → offers_fit n os ≡ true

@@ -1,6 +1,6 @@
 -- A chart within the limits keeps the laws of a transition source: a proof, which stands here since the law of the source
 -- cites it.
-use Rattle.std.specs.Prelude.{◌≡◌, ℕ, suc, ◌+◌, ◌<◌, ◌≤◌, true, cond, ◌&&◌, ◌⊎◌, List, [], ◌∷◌, ◌++◌, map, length, get_or, Some, None, ◌==◌, ◌≢◌, nat_le, nat_lt, slice_index_or}
+use Rattle.std.specs.Prelude.{◌≡◌, ℕ, suc, ◌+◌, ◌<◌, ◌≤◌, true, ◌&&◌, ◌⊎◌, List, [], ◌∷◌, ◌++◌, map, length, get_or, Some, ◌==◌, ◌≢◌, nat_le, nat_lt, slice_index_or}
 use Rattle.std.proofs.Math.Path.{refl, ap, subst}
 use Rattle.std.proofs.Common.{sym, ◌∙◌}
 use Rattle.std.proofs.Math.Logic.{inl, inr}
@@ -13,6 +13,7 @@ use Rattle.lts.specs.Labels.{label, visible}
 use Rattle.words.specs.Words.{most_tenths}
 use Rattle.lts.specs.Meaning.{Laws, Lawful, label_at, target_at}
 use Rattle.lts.specs.Answers.{tick_of}
+use Rattle.lts.proofs.Asked.{no_move}
 use Rattle.charts.specs.declared.row.Stay.{Stay}
 use Rattle.charts.specs.declared.row.Stay.TheVariants.{Finite, Endless}
 use Rattle.charts.specs.declared.row.Offer.{Offer}
@@ -21,10 +22,10 @@ use Rattle.charts.specs.Meaning.{arrival, offer_move, closing_move, chart_meanin
 use Rattle.charts.specs.Limits.{Limits, limits_of}
 use Rattle.charts.specs.States.{row_inside, row_begun, row_ends, row_fits_at, offer_fits_at}
 
-abbrev pub no_move : Move ℕ
-no_move = record { label = 0; target = 0 }
+abbrev pub no_offer : Offer
+no_offer = record { label = 0; row = 0 }
 
-visible_is_label : (a : ℕ) → visible a ≡ true → label a ≡ true
+pub visible_is_label : (a : ℕ) → visible a ≡ true → label a ≡ true
 unfolding visible label
 visible_is_label a h = grind (arith, nat_tests)
 
@@ -107,7 +108,7 @@ module _ (n : ℕ) (vs : List (Move ℕ)) (c : Move ℕ) (few : length vs ≤ 63
   }
 
 -- the tick of a list of offers that is closed by c
-pub closed_tick : (vs : List (Move ℕ)) (c : Move ℕ) → ((k : ℕ) → k < length vs → visible (label_at vs k) ≡ true) → tick_of (vs ++ (c ∷ [])) ≡ cond (c.label == 128) (Some c.target) None
+pub closed_tick : (vs : List (Move ℕ)) (c : Move ℕ) → ((k : ℕ) → k < length vs → visible (label_at vs k) ≡ true) → tick_of (vs ++ (c ∷ [])) ≡ tick_of (c ∷ [])
 unfolding tick_of
 closed_tick [] c h = refl
 closed_tick (v ∷ vs) c h =
@@ -135,9 +136,6 @@ module _ (xs : List Row) (limits : Limits xs) (s : ℕ) (inside : s < total xs) 
 
   pub stay_in_range : stay_fits n row.stay ≡ true
   stay_in_range = (and_parts (stay_fits n row.stay) (nat_le (length row.offers) 62 && offers_fit n row.offers) row_in_range).0
-
-  abbrev no_offer : Offer
-  no_offer = record { label = 0; row = 0 }
 
   pub offer_in_range : (k : ℕ) → k < length row.offers → (visible (get_or row.offers k no_offer).label ≡ true) × ((get_or row.offers k no_offer).row < n)
   offer_in_range k h =
@@ -186,7 +184,7 @@ module _ (xs : List Row) (limits : Limits xs) (s : ℕ) (inside : s < total xs) 
       closed_lawful (total xs) (map (offer_move xs) row.offers) (closing_move xs row.stay s (second_of xs s))
       (omega (arith, few_offers, length-map row.offers (offer_move xs))) offers_lead_on (closing row.stay refl)
 
-  pub state_tick : tick_of ((chart_meaning xs).moves s) ≡ cond ((closing_move xs row.stay s (second_of xs s)).label == 128) (Some (closing_move xs row.stay s (second_of xs s)).target) None
+  pub state_tick : tick_of ((chart_meaning xs).moves s) ≡ tick_of (closing_move xs row.stay s (second_of xs s) ∷ [])
   state_tick = closed_tick (map (offer_move xs) row.offers) (closing_move xs row.stay s (second_of xs s)) (λ k h. (offers_lead_on k h).0)
 
 some_states : (xs : List Row) → 1 ≤ length xs → 1 ≤ total xs
