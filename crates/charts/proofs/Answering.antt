@@ -1,5 +1,5 @@
 -- What a chart's invariant says of its tables, as the questions need it.
-use Rattle.std.proofs.Common.{◌≡◌, ℕ, ◌+◌, ◌-◌, ◌^◌, ◌<◌, ◌≤◌, true, leb, ltb, List, [], ◌∷◌, map, length, get_or, take, drop, Some, None, Ok, Err, Option, Bor, unwrap_or, vec_items, vec_len, sym, ap, ◌∙◌, subst, zero-add, arith}
+use Rattle.std.proofs.Common.{◌≡◌, ℕ, ◌+◌, ◌-◌, ◌^◌, ◌<◌, ◌≤◌, leb, ltb, List, [], ◌∷◌, map, length, get_or, take, drop, Some, None, Ok, Err, Option, Bor, unwrap_or, vec_items, vec_len, sym, ap, ◌∙◌, zero-add, arith}
 use Rattle.std.proofs.lemmas.List.{length-map, length-append, length-take, length-drop, get_or_at, get_or_append_left, get_or-map, get_or_default}
 use Rattle.std.proofs.lemmas.Bool.{and_parts, ltb-true}
 use Rattle.std.specs.Slice.{IsGetRangeResult}
@@ -7,13 +7,12 @@ use Rattle.lts.specs.declared.source.Move.{Move}
 use Rattle.lts.specs.Answers.{out_of_range, tick_of, move_count, nth_move, tick_target}
 use Rattle.lts.proofs.Asked.{no_move, counted, not_counted, found, no_state, past_moves, ticked, not_ticked}
 use Rattle.words.specs.Words.{most_tenths}
-use Rattle.charts.specs.declared.row.Stay.{Stay}
 use Rattle.charts.specs.declared.row.Stay.TheVariants.{Finite, Endless}
 use Rattle.charts.specs.declared.row.Offer.{Offer}
 use Rattle.charts.specs.declared.tables.RowEntry.{RowEntry}
 use Rattle.charts.specs.declared.chart.Chart.{Chart}
 use Rattle.charts.specs.declared.source.Standing.{Standing}
-use Rattle.charts.specs.Rows.{Row, total, row_at, first, row_of, second_of, stay_fits}
+use Rattle.charts.specs.Rows.{Row, total, first, row_of, second_of}
 use Rattle.charts.specs.Tables.{entry_row}
 use Rattle.charts.specs.Meaning.{offer_move, closing_move}
 use Rattle.charts.specs.Charts.{rows_of, meaning_of}
@@ -52,8 +51,7 @@ part_or_none xs from n None d h e p =
 pub entry_first : (c : Chart) (r : ℕ) (e : RowEntry) → r < length (rows_of c) → e ≡ get_or (vec_items c.tables.rows) r e → e.first ≡ first (rows_of c) r
 entry_first c r e inside is =
     let here : r < length (row_entries c) = omega (arith, length-map (row_entries c) (entry_row (offers c))) in
-    ap (λ (v : RowEntry). v.first) is ∙ sym (get_or-map (λ (v : RowEntry). v.first) (row_entries c) r e 0 here)
-    ∙ ap (λ v. get_or v r 0) c.firsts ∙ firsts_at 0 (rows_of c) r inside ∙ zero-add (first (rows_of c) r)
+    cc (get_or-map (λ (v : RowEntry). v.first) (row_entries c) r e 0 here, firsts_at 0 (rows_of c) r inside, zero-add (first (rows_of c) r))
 
 -- the row of a state
 module _ (c : Chart) (s r : ℕ) (owner : r ≡ get_or (vec_items c.tables.owners) s r) (owned : s < vec_len c.tables.owners) where
@@ -63,7 +61,7 @@ module _ (c : Chart) (s r : ℕ) (owner : r ≡ get_or (vec_items c.tables.owner
   owner_is : r ≡ row_of (rows_of c) s
   owner_is =
       let l : s < length (vec_items c.tables.owners) = omega (arith, c.tables.owners.ok.0) in
-      owner ∙ get_or_default (vec_items c.tables.owners) s r 0 l ∙ ap (λ v. get_or v s 0) c.owned ∙ owners_at 0 (rows_of c) s state_inside ∙ zero-add (row_of (rows_of c) s)
+      cc (get_or_default (vec_items c.tables.owners) s r 0 l, owners_at 0 (rows_of c) s state_inside, zero-add (row_of (rows_of c) s))
 
   owner_inside : r < length (rows_of c)
   owner_inside = omega (arith, owner_is, row_inside (rows_of c) s state_inside)
@@ -77,27 +75,24 @@ module _ (c : Chart) (s r : ℕ) (owner : r ≡ get_or (vec_items c.tables.owner
     here = omega (arith, owner_inside, length-map (row_entries c) (entry_row (offers c)))
 
     row_is : entry_row (offers c) e ≡ state_row c s
-    row_is =
-        ap (entry_row (offers c)) is ∙ sym (get_or-map (entry_row (offers c)) (row_entries c) r e (record { stay = Endless; offers = [] }) here)
-        ∙ ap (row_at (rows_of c)) owner_is
+    row_is = cc (get_or-map (entry_row (offers c)) (row_entries c) r e (record { stay = Endless; offers = [] }) here, owner_is)
 
     first_is : e.first ≡ first (rows_of c) (row_of (rows_of c) s)
-    first_is = entry_first c r e owner_inside is ∙ ap (first (rows_of c)) owner_is
+    first_is = cc (entry_first c r e owner_inside is, owner_is)
 
     count_is : e.offers ≡ length (take e.offers (drop e.from (offers c)))
     count_is =
-        ap (λ (v : RowEntry). v.offers) is ∙ sym (get_or-map (λ (v : RowEntry). v.offers) (row_entries c) r e 0 here)
-        ∙ ap (λ v. get_or v r 0) c.counts ∙ get_or-map (λ (x : Row). length x.offers) (rows_of c) r (record { stay = Endless; offers = [] }) 0 owner_inside
-        ∙ ap (λ j. length (row_at (rows_of c) j).offers) owner_is ∙ ap (λ (x : Row). length x.offers) (sym row_is)
+        let n : e.offers ≡ length (state_row c s).offers = cc (get_or-map (λ (v : RowEntry). v.offers) (row_entries c) r e 0 here, get_or-map (λ (x : Row). length x.offers) (rows_of c) r (record { stay = Endless; offers = [] }) 0 owner_inside, owner_is) in
+        n ∙ ap (λ (x : Row). length x.offers) (sym row_is)
 
     pub stay_is : e.stay ≡ (state_row c s).stay
-    stay_is = ap (λ (x : Row). x.stay) row_is
+    stay_is = cc row_is
 
     pub begun : e.first ≤ s
     begun = omega (arith, first_is, row_begun (rows_of c) s state_inside)
 
     pub second_is : s - e.first ≡ second_of (rows_of c) s
-    second_is = ap (λ j. s - j) first_is
+    second_is = cc first_is
 
     pub offers_fit : e.from < 2 ^ 64 → e.from + e.offers < 2 ^ 64
     offers_fit h = omega (arith, count_is, length-take e.offers (drop e.from (offers c)), length-drop e.from (offers c), c.tables.offers.ok)
@@ -115,11 +110,11 @@ module _ (t : Standing) where
 
   pub timeout_row : (d r : ℕ) → t.stay ≡ Finite d r → r < length xs
   timeout_row d r e =
-      let fits = subst (λ (v : Stay). stay_fits (length xs) v ≡ true) (sym t.stays ∙ e) (stay_in_range xs (chart_limits t.chart.now) t.state t.inside) in
+      let fits = rw (← t.stays, e) at (stay_in_range xs (chart_limits t.chart.now) t.state t.inside) in
       ltb-true r (length xs) (and_parts (leb d most_tenths) (ltb r (length xs)) fits).1
 
   pub few_in : length t.offers.now ≤ 62
-  few_in = omega (arith, ap (λ (v : List Offer). length v) t.offered, few_offers xs (chart_limits t.chart.now) t.state t.inside)
+  few_in = rw t.offered (few_offers xs (chart_limits t.chart.now) t.state t.inside)
 
   module _ (c : Chart) (s : ℕ) (of : t.chart.now ≡ c) (is : t.state ≡ s) where
     abbrev ms : List (Move ℕ)
@@ -129,35 +124,31 @@ module _ (t : Standing) where
     closing = closing_move (rows_of c) (state_row c s).stay s (second_of (rows_of c) s)
 
     inside : s < total (rows_of c)
-    inside = subst (λ (v : Chart). s < total (rows_of v)) of (subst (λ j. j < total (rows_of t.chart.now)) is t.inside)
+    inside = rw (← of, ← is) t.inside
 
     offers_of : t.offers.now ≡ (state_row c s).offers
-    offers_of = t.offered ∙ ap (λ (v : Chart). (state_row v t.state).offers) of ∙ ap (λ j. (state_row c j).offers) is
+    offers_of = cc
 
     closing_of : closing_move (rows_of t.chart.now) t.stay t.state t.second ≡ closing
-    closing_of =
-        ap (λ v. closing_move xs v t.state t.second) t.stays ∙ ap (closing_move xs (state_row t.chart.now t.state).stay t.state) t.since
-        ∙ ap (λ (v : Chart). closing_move (rows_of v) (state_row v t.state).stay t.state (second_of (rows_of v) t.state)) of
-        ∙ ap (λ j. closing_move (rows_of c) (state_row c j).stay j (second_of (rows_of c) j)) is
+    closing_of = cc
 
     offered_length : length (map (offer_move (rows_of c)) (state_row c s).offers) ≡ length t.offers.now
-    offered_length = length-map (state_row c s).offers (offer_move (rows_of c)) ∙ sym (ap (λ (v : List Offer). length v) offers_of)
+    offered_length = cc (length-map (state_row c s).offers (offer_move (rows_of c)), offers_of)
 
     list_length : length ms ≡ length t.offers.now + 1
-    list_length = length-append (map (offer_move (rows_of c)) (state_row c s).offers) (closing ∷ []) ∙ ap (λ j. j + 1) offered_length
+    list_length = cc (length-append (map (offer_move (rows_of c)) (state_row c s).offers) (closing ∷ []), offered_length)
 
     pub counts : Ok (length t.offers.now + 1) ≡ move_count (meaning_of c) s
-    counts = ap (λ j. Ok j) (sym list_length) ∙ sym (counted (meaning_of c) s inside)
+    counts = cc (list_length, counted (meaning_of c) s inside)
 
     offer_is : (k : ℕ) (o : Offer) → k < length t.offers.now → o ≡ get_or t.offers.now k o → o ≡ get_or (state_row c s).offers k no_offer
-    offer_is k o h e = e ∙ get_or_default t.offers.now k o no_offer h ∙ ap (λ v. get_or v k no_offer) offers_of
+    offer_is k o h e = cc (get_or_default t.offers.now k o no_offer h, offers_of)
 
     offered_in : (k : ℕ) → k < length t.offers.now → k < length (state_row c s).offers
-    offered_in k h = omega (arith, ap (λ (v : List Offer). length v) offers_of)
+    offered_in k h = rw (← offers_of) h
 
     pub offer_row : (k : ℕ) (o : Offer) → k < length t.offers.now → o ≡ get_or t.offers.now k o → o.row < length (rows_of c)
-    offer_row k o h e =
-        subst (λ (v : Offer). v.row < length (rows_of c)) (sym (offer_is k o h e)) (offer_in_range (rows_of c) (chart_limits c) s inside k (offered_in k h)).1
+    offer_row k o h e = rw (offer_is k o h e) (offer_in_range (rows_of c) (chart_limits c) s inside k (offered_in k h)).1
 
     nth : (k : ℕ) → k < length t.offers.now + 1 → Ok (get_or ms k no_move) ≡ nth_move (meaning_of c) s k
     nth k h = sym (found (meaning_of c) s k inside (omega (arith, list_length)))
@@ -165,20 +156,23 @@ module _ (t : Standing) where
     pub nth_offer : (k : ℕ) (o : Offer) (m : Move ℕ) → k < length t.offers.now → o ≡ get_or t.offers.now k o → m ≡ offer_move (rows_of c) o → Ok m ≡ nth_move (meaning_of c) s k
     nth_offer k o m h e q =
         let l : k < length (map (offer_move (rows_of c)) (state_row c s).offers) = omega (arith, offered_length) in
-        ap (λ v. Ok v) (q ∙ ap (offer_move (rows_of c)) (offer_is k o h e) ∙ sym (offer_at (rows_of c) (chart_limits c) s inside k (offered_in k h))
-        ∙ sym (get_or_append_left (map (offer_move (rows_of c)) (state_row c s).offers) (closing ∷ []) no_move k l))
-        ∙ nth k (omega arith)
+        cc (
+          offer_is k o h e,
+          offer_at (rows_of c) (chart_limits c) s inside k (offered_in k h),
+          get_or_append_left (map (offer_move (rows_of c)) (state_row c s).offers) (closing ∷ []) no_move k l,
+          nth k (omega arith),
+        )
 
     pub nth_closing : (k : ℕ) (m : Move ℕ) → k ≡ length t.offers.now → m ≡ closing_move (rows_of t.chart.now) t.stay t.state t.second → Ok m ≡ nth_move (meaning_of c) s k
     nth_closing k m h q =
-        ap (λ v. Ok v) (q ∙ closing_of ∙ sym (get_or_at (map (offer_move (rows_of c)) (state_row c s).offers) closing [] no_move k (offered_length ∙ sym h))) ∙ nth k (omega arith)
+        cc (get_or_at (map (offer_move (rows_of c)) (state_row c s).offers) closing [] no_move k (offered_length ∙ sym h), nth k (omega arith))
 
     pub nth_past : (k : ℕ) → length t.offers.now < k → Err out_of_range ≡ nth_move (meaning_of c) s k
     nth_past k h = sym (past_moves (meaning_of c) s k (omega (arith, list_length)))
 
     pub ticks : (m : Move ℕ) (o : Option ℕ) → m ≡ closing_move (rows_of t.chart.now) t.stay t.state t.second → o ≡ tick_of (m ∷ []) → Ok o ≡ tick_target (meaning_of c) s
     ticks m o q h =
-        ap (λ v. Ok v) (h ∙ ap (λ v. tick_of (v ∷ [])) (q ∙ closing_of) ∙ sym (state_tick (rows_of c) (chart_limits c) s inside)) ∙ sym (ticked (meaning_of c) s inside)
+        cc (state_tick (rows_of c) (chart_limits c) s inside, ticked (meaning_of c) s inside)
 
 -- what the questions are answered
 pub ruleset answers = (few_states, timeout_row, few_in, offer_row, counts, nth_offer, nth_closing, nth_past, ticks, not_counted, no_state, not_ticked)
