@@ -1,12 +1,11 @@
 -- What a chart's invariant says of its tables, as the questions need it.
-use Rattle.std.proofs.Common.{◌≡◌, ℕ, ◌+◌, ◌-◌, ◌^◌, ◌<◌, ◌≤◌, leb, ltb, List, [], ◌∷◌, map, length, get_or, take, drop, Some, None, Ok, Err, Option, Bor, unwrap_or, vec_items, vec_len, sym, ap, ◌∙◌, zero-add, arith}
+use Rattle.std.proofs.Common.{◌≡◌, ℕ, ◌+◌, ◌-◌, ◌^◌, ◌<◌, ◌≤◌, List, [], ◌∷◌, map, length, get_or, take, drop, Some, None, Ok, Err, Option, Bor, unwrap_or, vec_items, vec_len, sym, ap, ◌∙◌, zero-add, arith}
 use Rattle.std.proofs.lemmas.List.{length-map, length-append, length-take, length-drop, get_or_at, get_or_append_left, get_or-map, get_or_default}
 use Rattle.std.proofs.lemmas.Bool.{and_parts, ltb-true}
 use Rattle.std.specs.Slice.{IsGetRangeResult}
 use Rattle.lts.specs.declared.source.Move.{Move}
 use Rattle.lts.specs.Answers.{out_of_range, tick_of, move_count, nth_move, tick_target}
 use Rattle.lts.proofs.Asked.{no_move, counted, not_counted, found, no_state, past_moves, ticked, not_ticked}
-use Rattle.words.specs.Words.{most_tenths}
 use Rattle.charts.specs.declared.row.Stay.TheVariants.{Finite, Endless}
 use Rattle.charts.specs.declared.row.Offer.{Offer}
 use Rattle.charts.specs.declared.tables.RowEntry.{RowEntry}
@@ -111,7 +110,7 @@ module _ (t : Standing) where
   pub timeout_row : (d r : ℕ) → t.stay ≡ Finite d r → r < length xs
   timeout_row d r e =
       let fits = rw (← t.stays, e) at (stay_in_range xs (chart_limits t.chart.now) t.state t.inside) in
-      ltb-true r (length xs) (and_parts (leb d most_tenths) (ltb r (length xs)) fits).1
+      ltb-true r (length xs) (and_parts _ _ fits).1
 
   pub few_in : length t.offers.now ≤ 62
   few_in = rw t.offered (few_offers xs (chart_limits t.chart.now) t.state t.inside)

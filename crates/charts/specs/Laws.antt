@@ -1,6 +1,6 @@
 -- A chart within the limits keeps the laws of a transition source: a proof, which stands here since the law of the source
 -- cites it.
-use Rattle.std.specs.Prelude.{◌≡◌, ℕ, ◌+◌, ◌<◌, ◌≤◌, true, false, None, ◌&&◌, ◌⊎◌, List, [], ◌∷◌, ◌++◌, map, length, get_or, Some, ◌==◌, ◌≢◌, nat_le, nat_lt, slice_index_or}
+use Rattle.std.specs.Prelude.{◌≡◌, ℕ, ◌+◌, ◌<◌, ◌≤◌, true, false, None, ◌⊎◌, List, [], ◌∷◌, ◌++◌, map, length, get_or, Some, ◌==◌, ◌≢◌, nat_le, nat_lt, slice_index_or}
 use Rattle.std.proofs.Math.Path.{refl, ap}
 use Rattle.std.proofs.Common.{sym, ◌∙◌}
 use Rattle.std.proofs.Math.Logic.{inl, inr}
@@ -110,21 +110,19 @@ module _ (xs : List Row) (limits : Limits xs) (s : ℕ) (inside : s < total xs) 
   pub row_in_range : row_fits n row ≡ true
   row_in_range = row_fits_at n xs (row_of xs s) limits.fits (row_inside xs s inside)
 
-  pub offers_in_range : offers_fit n row.offers ≡ true
-  offers_in_range =
-      (and_parts (nat_le (length row.offers) 62) (offers_fit n row.offers) (and_parts (stay_fits n row.stay) (nat_le (length row.offers) 62 && offers_fit n row.offers) row_in_range).1).1
+  pub stay_in_range : stay_fits n row.stay ≡ true
+  stay_in_range = (and_parts _ _ row_in_range).0
 
   pub few_offers : length row.offers ≤ 62
-  few_offers =
-      leb-true (length row.offers) 62 (and_parts (nat_le (length row.offers) 62) (offers_fit n row.offers) (and_parts (stay_fits n row.stay) (nat_le (length row.offers) 62 && offers_fit n row.offers) row_in_range).1).0
+  few_offers = leb-true _ _ (and_parts _ _ (and_parts _ _ row_in_range).1).0
 
-  pub stay_in_range : stay_fits n row.stay ≡ true
-  stay_in_range = (and_parts (stay_fits n row.stay) (nat_le (length row.offers) 62 && offers_fit n row.offers) row_in_range).0
+  pub offers_in_range : offers_fit n row.offers ≡ true
+  offers_in_range = (and_parts _ _ (and_parts _ _ row_in_range).1).1
 
   pub offer_in_range : (k : ℕ) → k < length row.offers → (visible (get_or row.offers k no_offer).label ≡ true) × ((get_or row.offers k no_offer).row < n)
   offer_in_range k h =
       let o = get_or row.offers k no_offer in
-      let f = and_parts (visible o.label) (nat_lt o.row n) (offer_fits_at n row.offers k no_offer offers_in_range h) in
+      let f = and_parts _ _ (offer_fits_at n row.offers k no_offer offers_in_range h) in
       (f.0, ltb-true o.row n f.1)
 
   first_inside : (r : ℕ) → r < n → first xs r < total xs
@@ -139,12 +137,12 @@ module _ (xs : List Row) (limits : Limits xs) (s : ℕ) (inside : s < total xs) 
   offer_at k h = get_or-map (offer_move xs) row.offers k no_offer no_move h
 
   offer_leads_on : (o : Offer) → offer_fits n o ≡ true → Offered (total xs) (offer_move xs o)
-  offer_leads_on o h = let f = and_parts (visible o.label) (nat_lt o.row n) h in (f.0, arrival_inside o (ltb-true o.row n f.1))
+  offer_leads_on o h = let f = and_parts _ _ h in (f.0, arrival_inside o (ltb-true o.row n f.1))
 
   lead_on : (os : List Offer) → offers_fit n os ≡ true → All (Offered (total xs)) (map (offer_move xs) os)
   unfolding offers_fit
   lead_on [] h = tt
-  lead_on (o ∷ os) h = let f = and_parts (offer_fits n o) (offers_fit n os) h in (offer_leads_on o f.0, lead_on os f.1)
+  lead_on (o ∷ os) h = let f = and_parts _ _ h in (offer_leads_on o f.0, lead_on os f.1)
 
   offers_lead_on : All (Offered (total xs)) (map (offer_move xs) row.offers)
   offers_lead_on = lead_on row.offers offers_in_range
