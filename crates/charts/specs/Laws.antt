@@ -51,6 +51,7 @@ Closes n c = ((c.label ≡ 0) ⊎ (c.label ≡ 128)) × (c.target < n)
 acting : (n : ℕ) (m : Move ℕ) → Offered n m → Acts n m
 acting n m h = record { labelled = visible_is_label m.label h.0; no_tick = visible_no_tick m.label h.0; inside = h.1 }
 
+-- none of the offers is a τ
 loud : (n : ℕ) (vs : List (Move ℕ)) → All (Offered n) vs → silent vs ≡ false
 loud n [] h = refl
 loud n (v ∷ vs) h = or_from (v.label == 0) (silent vs) (ne_eqb v.label 0 (visible_no_tau v.label h.0.0)) (loud n vs h.1)

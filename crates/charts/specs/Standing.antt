@@ -11,7 +11,7 @@ use Rattle.charts.specs.Charts.{rows_of}
 abbrev pub state_row : Chart → ℕ → Row
 state_row c s = row_at (rows_of c) (row_of (rows_of c) s)
 
--- the move behind the offers
+-- the move that closes the list
 abbrev pub closed_by : Closing → Move ℕ
 closed_by (Tick t) = record { label = 128; target = t }
 closed_by (Timeout t) = record { label = 0; target = t }

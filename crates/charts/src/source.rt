@@ -11,8 +11,8 @@ use crate::row::{Offer, Stay, seconds};
 use lts::label::{TAU, TICK};
 use lts::{Move, OutOfRange, Source};
 
-// A state of a chart: so many seconds into its row, whose stay and offers are
-// here.
+// A state of a chart, with what the tables say of its row: how many seconds of
+// the row have passed, how long it is stayed in, and its offers.
 #[derive(Drop)]
 struct Standing<'a> {
     chart: &'a Chart,
@@ -26,8 +26,8 @@ struct Standing<'a> {
     ghost offered: { offers.now ≡ (state_row chart.now state).offers },
 }
 
-// How a list of moves ends: with a tick, or with the step that leaves the row
-// when its dwell is over. Each holds the state that it leads to.
+// How a list of moves ends: with a tick, or with the timeout that leaves a row
+// whose dwell is over. Each holds the state that it leads to.
 enum Closing {
     Tick(u32),
     Timeout(u32),
@@ -93,6 +93,7 @@ impl Standing<'_> {
 }
 
 impl Closing {
+    // It as a move.
     fn step(self) -> Move<u32>
         ensures { result ≡ closed_by self }
     {
