@@ -5,7 +5,7 @@ use Rattle.std.proofs.Math.Path.{refl, ap}
 use Rattle.std.proofs.Common.{sym, ◌∙◌}
 use Rattle.std.proofs.Math.Logic.{inl, inr}
 use native.Mathlib.Omega.{arith}
-use Rattle.std.specs.List.{AllByRecursion as All}
+use Rattle.std.specs.List.{AllByRecursion}
 use Rattle.std.proofs.ByRecursion.{All-append, All-weaker}
 use Rattle.std.proofs.lemmas.Bool.{false≢true, or_from, or_right, cond_both, cond-false, ltb-true, leb-true, ne_eqb, and_parts}
 use Rattle.std.proofs.lemmas.Bool.Decides.{nat_tests}
@@ -52,7 +52,7 @@ acting : (n : ℕ) (m : Move ℕ) → Offered n m → Acts n m
 acting n m h = record { labelled = visible_is_label m.label h.0; no_tick = visible_no_tick m.label h.0; inside = h.1 }
 
 -- none of the offers is a τ
-loud : (n : ℕ) (vs : List (Move ℕ)) → All (Offered n) vs → silent vs ≡ false
+loud : (n : ℕ) (vs : List (Move ℕ)) → AllByRecursion (Offered n) vs → silent vs ≡ false
 loud n [] h = refl
 loud n (v ∷ vs) h = or_from (v.label == 0) (silent vs) (ne_eqb v.label 0 (visible_no_tau v.label h.0.0)) (loud n vs h.1)
 
@@ -61,8 +61,8 @@ silent_end [] t = refl
 silent_end (v ∷ vs) t = or_right (v.label == 0) _ (silent_end vs t)
 
 -- offers and then a tick, or τ in its place
-module _ (n : ℕ) (vs : List (Move ℕ)) (few : length vs ≤ 63) (offers : All (Offered n) vs) (t : ℕ) (inside : t < n) where
-  acts : All (Acts n) vs
+module _ (n : ℕ) (vs : List (Move ℕ)) (few : length vs ≤ 63) (offers : AllByRecursion (Offered n) vs) (t : ℕ) (inside : t < n) where
+  acts : AllByRecursion (Acts n) vs
   acts = All-weaker (Offered n) (Acts n) (acting n) vs offers
 
   abbrev tick : Move ℕ
@@ -89,12 +89,12 @@ module _ (n : ℕ) (vs : List (Move ℕ)) (few : length vs ≤ 63) (offers : All
   tau_lawful : Lawful n (vs ++ (tau ∷ []))
   tau_lawful = rw (← append-nil (vs ++ (tau ∷ []))) (relawed n (vs ++ (tau ∷ [])) None timed_out (omega (arith, length-append (vs ++ (tau ∷ [])) [], length-append vs (tau ∷ []))))
 
-pub closed_lawful : (n : ℕ) (vs : List (Move ℕ)) (c : Move ℕ) → length vs ≤ 63 → All (Offered n) vs → Closes n c → Lawful n (vs ++ (c ∷ []))
+pub closed_lawful : (n : ℕ) (vs : List (Move ℕ)) (c : Move ℕ) → length vs ≤ 63 → AllByRecursion (Offered n) vs → Closes n c → Lawful n (vs ++ (c ∷ []))
 closed_lawful n vs c few offers (inl e, h) = rw e (tau_lawful n vs few offers c.target h)
 closed_lawful n vs c few offers (inr e, h) = rw e (tick_lawful n vs few offers c.target h)
 
 -- the tick of a list of offers that is closed by c
-pub closed_tick : (n : ℕ) (vs : List (Move ℕ)) (c : Move ℕ) → All (Offered n) vs → tick_of (vs ++ (c ∷ [])) ≡ tick_of (c ∷ [])
+pub closed_tick : (n : ℕ) (vs : List (Move ℕ)) (c : Move ℕ) → AllByRecursion (Offered n) vs → tick_of (vs ++ (c ∷ [])) ≡ tick_of (c ∷ [])
 unfolding tick_of
 closed_tick n [] c h = refl
 closed_tick n (v ∷ vs) c h =
@@ -140,12 +140,12 @@ module _ (xs : List Row) (limits : Limits xs) (s : ℕ) (inside : s < total xs) 
   offer_leads_on : (o : Offer) → offer_fits n o ≡ true → Offered (total xs) (offer_move xs o)
   offer_leads_on o h = let f = and_parts _ _ h in (f.0, arrival_inside o (ltb-true o.row n f.1))
 
-  lead_on : (os : List Offer) → offers_fit n os ≡ true → All (Offered (total xs)) (map (offer_move xs) os)
+  lead_on : (os : List Offer) → offers_fit n os ≡ true → AllByRecursion (Offered (total xs)) (map (offer_move xs) os)
   unfolding offers_fit
   lead_on [] h = tt
   lead_on (o ∷ os) h = let f = and_parts _ _ h in (offer_leads_on o f.0, lead_on os f.1)
 
-  offers_lead_on : All (Offered (total xs)) (map (offer_move xs) row.offers)
+  offers_lead_on : AllByRecursion (Offered (total xs)) (map (offer_move xs) row.offers)
   offers_lead_on = lead_on row.offers offers_in_range
 
   closing : (st : Stay) → row.stay ≡ st → Closes (total xs) (closing_move xs st s (second_of xs s))
