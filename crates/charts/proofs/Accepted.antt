@@ -58,16 +58,13 @@ whole_back xs some few h =
     ∙ cond-true (rows_words xs == length ws) (Ok xs) (Err (Length (suc (rows_words xs)))) (eq-eqb (rows_words xs) (length ws) (sym (rows_length xs)))
 
 -- no row passes the limit exactly if the states are within it
-no_some : {P : Type 0} (p : ℕ) → ◌≡◌ {A = Option ℕ} (Some p) None → P
-no_some p e = absurd (let z : ◌≡◌ {A = ℕ} 0 1 = cc in omega arith)
-
 pub fits_if_none : (s p : ℕ) (xs : List Row) → s ≤ 4096 → overflow s p xs ≡ None → s + total xs ≤ 4096
 unfolding overflow total
 fits_if_none s p [] h e = omega arith
 fits_if_none s p (x ∷ xs) h e =
     elim (cases_Bool (nat_lt 4096 (s + size x))) [
-      | inl q ↦ no_some p (sym (cond-true (nat_lt 4096 (s + size x)) (Some p) (overflow (s + size x) (p + row_words x) xs) q) ∙ e)
-      | inr q ↦ (let rest = fits_if_none (s + size x) (p + row_words x) xs (ltb-false 4096 (s + size x) q) (sym (cond-false (nat_lt 4096 (s + size x)) (Some p) (overflow (s + size x) (p + row_words x) xs) q) ∙ e) in omega arith)
+      | inl q ↦ cc (cond-true (nat_lt 4096 (s + size x)) (Some p) (overflow (s + size x) (p + row_words x) xs) q)
+      | inr q ↦ (let rest = fits_if_none (s + size x) (p + row_words x) xs (ltb-false 4096 (s + size x) q) (cc (cond-false (nat_lt 4096 (s + size x)) (Some p) (overflow (s + size x) (p + row_words x) xs) q)) in omega arith)
     ]
 
 pub none_if_fits : (s p : ℕ) (xs : List Row) → s + total xs ≤ 4096 → overflow s p xs ≡ None

@@ -1,8 +1,7 @@
 -- The reader takes exactly the words of charts: what it reads, encoded again, is the words, and what was encoded is read back.
-use Rattle.std.specs.Prelude.{◌≡◌, ℕ, zero, suc, ◌+◌, ◌^◌, ◌<◌, ◌≤◌, true, cond, ◌&&◌, List, [], ◌∷◌, ◌++◌, map, length, drop, Ok, Err, ◌==◌, nat_le, nat_lt, refl}
+use Rattle.std.specs.Prelude.{◌≡◌, ℕ, zero, suc, ◌+◌, ◌^◌, ◌<◌, ◌≤◌, true, cond, ◌&&◌, List, [], ◌∷◌, ◌++◌, map, length, drop, Ok, Err, ◌==◌, nat_lt, refl}
 use Rattle.std.proofs.Common.{sym, ap, ap₂, subst, ◌∙◌, arith}
 use Rattle.std.proofs.lemmas.Bool.{cond-true, and_from, and_parts, ltb-true, leb-true, eqb-true, le-leb}
-use Rattle.std.proofs.lemmas.Bool.Decides.{nat_tests}
 use Rattle.std.proofs.lemmas.List.{append_assoc, length-append, length-map, drop_at, drop-drop}
 use Rattle.lts.specs.declared.source.Move.{Move}
 use Rattle.lts.specs.Labels.{label, visible}
@@ -18,6 +17,7 @@ use Rattle.charts.specs.declared.row.Offer.{Offer}
 use Rattle.charts.specs.Rows.{Row, stay_words, offer_fits, stay_fits, offers_fit, row_fits, rows_fit}
 use Rattle.words.specs.Reading.{then, mapped}
 use Rattle.charts.specs.Reading.{timeout_in, offer_in, read_timeout, read_head, read_stay, read_count, read_offers, read_row, read_rows, row_words, rows_words}
+use Rattle.charts.specs.Laws.{visible_is_label}
 use Rattle.charts.specs.Encoding.{offer_word, stay_encoded, row_encoded, rows_encoded}
 use Rattle.words.proofs.Results.{then_ok, then_by, mapped_ok, mapped_by, passed, never_ok, same_ok}
 
@@ -55,17 +55,13 @@ offers_exact n p (suc k) (w ∷ ws) os e =
     subst (λ (v : List Offer). (length v ≡ suc k) × (offers_fit n v ≡ true) × Begins (map offer_word v) (w ∷ ws)) b.1.1
     (ap suc y.0, and_from _ _ x.1 y.1, ap₂ ◌∷◌ (sym x.0) y.2)
 
-visible_label : (a : ℕ) → visible a ≡ true → label a ≡ true
-unfolding visible label
-visible_label a h = grind (arith, nat_tests)
-
 pub offer_back : (n p : ℕ) (o : Offer) → n ≤ 256 → offer_fits n o ≡ true → offer_in n p (offer_word o) ≡ Ok o
 offer_back n p o few h =
-    let v = (and_parts (visible o.label) (nat_lt o.row n) h).0 in
+    let v : visible o.label ≡ true = (and_parts _ _ h).0 in
     let l = ltb-true o.row n (and_parts (visible o.label) (nat_lt o.row n) h).1 in
     let small : o.row < 2 ^ 20 = omega arith in
     let m : Move ℕ = record { label = o.label; target = o.row } in
-    ap (λ r. then r (λ m. cond (visible m.label && nat_lt m.target n) (Ok (offer_of m)) (Err (Range p)))) (arrow_back p m (visible_label o.label v, small))
+    ap (λ r. then r (λ m. cond (visible m.label && nat_lt m.target n) (Ok (offer_of m)) (Err (Range p)))) (arrow_back p m (visible_is_label o.label v, small))
     ∙ cond-true (visible o.label && nat_lt o.row n) (Ok o) (Err (Range p)) h
 
 pub offers_back : (n p : ℕ) (os : List Offer) (ws : List ℕ) → n ≤ 256 → offers_fit n os ≡ true
@@ -73,8 +69,8 @@ pub offers_back : (n p : ℕ) (os : List Offer) (ws : List ℕ) → n ≤ 256 �
 unfolding read_offers offers_fit
 offers_back n p [] ws few h = refl
 offers_back n p (o ∷ os) ws few h =
-    let a = offer_back n p o few (and_parts (offer_fits n o) (offers_fit n os) h).0 in
-    let b = offers_back n (p + 1) os ws few (and_parts (offer_fits n o) (offers_fit n os) h).1 in
+    let a = offer_back n p o few (and_parts _ _ h).0 in
+    let b = offers_back n (p + 1) os ws few (and_parts _ _ h).1 in
     ap (λ r. then r (λ q. mapped (λ v. q ∷ v) (read_offers n (p + 1) (length os) (map offer_word os ++ ws)))) a
     ∙ ap (mapped (λ v. o ∷ v)) b
 
@@ -86,8 +82,8 @@ timeout_exact n p w t e =
     let a = then_ok (arrow_in p w) (λ m. cond (m.label == 0 && nat_lt m.target n) (Ok m.target) (Err (Range p))) t e in
     let b = passed (a.0.label == 0 && nat_lt a.0.target n) a.0.target t (Range p) a.1.1 in
     let x = arrow_exact p w a.0 a.1.0 in
-    let z = eqb-true a.0.label 0 (and_parts (a.0.label == 0) (nat_lt a.0.target n) b.0).0 in
-    let l = (and_parts (a.0.label == 0) (nat_lt a.0.target n) b.0).1 in
+    let z = eqb-true a.0.label 0 (and_parts _ _ b.0).0 in
+    let l = (and_parts _ _ b.0).1 in
     (ap₂ (λ u v. arrow_word (record { label = u; target = v })) (sym z) (sym b.1) ∙ x.0, subst (λ v. nat_lt v n ≡ true) b.1 l)
 
 Stays : ℕ → List ℕ → Stay → Type 0
@@ -214,9 +210,9 @@ timeout_back n p t few h =
 
 stay_back : (n p : ℕ) (st : Stay) (ws : List ℕ) → n ≤ 256 → stay_fits n st ≡ true → read_stay n p (stay_encoded st ++ ws) ≡ Ok st
 stay_back n p (Finite d t) ws few h =
-    let short = leb-true d most_tenths (and_parts (nat_le d most_tenths) (nat_lt t n) h).0 in
+    let short = leb-true d most_tenths (and_parts _ _ h).0 in
     ap (λ r. then r (read_head n p (arrow_word (record { label = 0; target = t }) ∷ ws))) (row_back p (Dwell d) short)
-    ∙ ap (mapped (Finite d)) (timeout_back n (p + 1) t few (and_parts (nat_le d most_tenths) (nat_lt t n) h).1)
+    ∙ ap (mapped (Finite d)) (timeout_back n (p + 1) t few (and_parts _ _ h).1)
 stay_back n p Endless ws few h = ap (λ r. then r (read_head n p ws)) (row_back p EndlessHead tt)
 
 row_back_from : (n p : ℕ) (x : Row) (ws : List ℕ) → n ≤ 256 → row_fits n x ≡ true → read_row n p (row_encoded x ++ ws) ≡ Ok x
@@ -227,14 +223,14 @@ row_back_from n p x ws few h =
     let all : List ℕ = row_encoded x ++ ws in
     let tail : List ℕ = count_word 15 (length os) ∷ (map offer_word os ++ ws) in
     let shape : all ≡ stay_encoded st ++ tail = append_assoc (stay_encoded st) (count_word 15 (length os) ∷ map offer_word os) ws in
-    let h1 = (and_parts (stay_fits n st) (nat_le (length os) 62 && offers_fit n os) h).0 in
-    let h2 = (and_parts (stay_fits n st) (nat_le (length os) 62 && offers_fit n os) h).1 in
-    let few_offers = leb-true (length os) 62 (and_parts (nat_le (length os) 62) (offers_fit n os) h2).0 in
+    let h1 = (and_parts _ _ h).0 in
+    let h2 = (and_parts _ _ h).1 in
+    let few_offers = leb-true (length os) 62 (and_parts _ _ h2).0 in
     let a = ap (read_stay n p) shape ∙ stay_back n p st tail few h1 in
     let cut : drop (stay_words st) all ≡ tail = ap (drop (stay_words st)) shape ∙ drop_at (stay_encoded st) tail (stay_words st) (stay_length st) in
     let cut2 : drop (stay_words st + 1) all ≡ map offer_word os ++ ws = sym (drop-drop 1 (stay_words st) all) ∙ ap (drop 1) cut in
     let b = ap (read_count (p + stay_words st)) cut ∙ word_offers_back (p + stay_words st) (length os) few_offers in
-    let c = ap (read_offers n (p + stay_words st + 1) (length os)) cut2 ∙ offers_back n (p + stay_words st + 1) os ws few (and_parts (nat_le (length os) 62) (offers_fit n os) h2).1 in
+    let c = ap (read_offers n (p + stay_words st + 1) (length os)) cut2 ∙ offers_back n (p + stay_words st + 1) os ws few (and_parts _ _ h2).1 in
     ap (λ r. then r (λ st. then (read_count (p + stay_words st) (drop (stay_words st) all)) (λ k. mapped (λ os. row_of_parts st os) (read_offers n (p + stay_words st + 1) k (drop (stay_words st + 1) all))))) a
     ∙ ap (λ r. then r (λ k. mapped (λ os. row_of_parts st os) (read_offers n (p + stay_words st + 1) k (drop (stay_words st + 1) all)))) b
     ∙ ap (mapped (λ os. row_of_parts st os)) c
@@ -245,8 +241,8 @@ rows_back n p [] ws few h = refl
 rows_back n p (x ∷ xs) ws few h =
     let all : List ℕ = (row_encoded x ++ rows_encoded xs) ++ ws in
     let shape : all ≡ row_encoded x ++ (rows_encoded xs ++ ws) = append_assoc (row_encoded x) (rows_encoded xs) ws in
-    let a = ap (read_row n p) shape ∙ row_back_from n p x (rows_encoded xs ++ ws) few (and_parts (row_fits n x) (rows_fit n xs) h).0 in
+    let a = ap (read_row n p) shape ∙ row_back_from n p x (rows_encoded xs ++ ws) few (and_parts _ _ h).0 in
     let cut : drop (row_words x) all ≡ rows_encoded xs ++ ws = ap (drop (row_words x)) shape ∙ drop_at (row_encoded x) (rows_encoded xs ++ ws) (row_words x) (row_length x) in
-    let b = ap (read_rows n (p + row_words x) (length xs)) cut ∙ rows_back n (p + row_words x) xs ws few (and_parts (row_fits n x) (rows_fit n xs) h).1 in
+    let b = ap (read_rows n (p + row_words x) (length xs)) cut ∙ rows_back n (p + row_words x) xs ws few (and_parts _ _ h).1 in
     ap (λ r. then r (λ x. mapped (λ v. x ∷ v) (read_rows n (p + row_words x) (length xs) (drop (row_words x) all)))) a
     ∙ ap (mapped (λ v. x ∷ v)) b

@@ -1,5 +1,5 @@
 -- The layout and the limits of a chart, taken apart: lemmas, which stand here since the law of the source cites them.
-use Rattle.std.specs.Prelude.{◌≡◌, ◌≤◌, true, List, length, nat_le, ◌&&◌}
+use Rattle.std.specs.Prelude.{◌≡◌, ◌≤◌, true, List, length}
 use Rattle.std.proofs.lemmas.Bool.{and_from, and_parts, leb-true, le-leb}
 use Rattle.charts.specs.Rows.{Row, total, rows_fit, in_layout, within}
 
@@ -16,9 +16,9 @@ pub record Layout (xs : List Row) : Type 0 where
 pub layout_of : (xs : List Row) → in_layout xs ≡ true → Layout xs
 unfolding in_layout
 layout_of xs h =
-    let a = and_parts (nat_le 1 (length xs) && nat_le (length xs) 256) (rows_fit (length xs) xs) h in
-    let b = and_parts (nat_le 1 (length xs)) (nat_le (length xs) 256) a.0 in
-    record { some = leb-true 1 (length xs) b.0; few = leb-true (length xs) 256 b.1; fits = a.1 }
+    let a = and_parts _ _ h in
+    let b = and_parts _ _ a.0 in
+    record { some = leb-true _ _ b.0; few = leb-true _ _ b.1; fits = a.1 }
 
 pub limits : (xs : List Row) → 1 ≤ length xs → length xs ≤ 256 → rows_fit (length xs) xs ≡ true → total xs ≤ 4096 → within xs ≡ true
 unfolding within
@@ -33,6 +33,6 @@ pub record Limits (xs : List Row) : Type 0 where
 pub limits_of : (xs : List Row) → within xs ≡ true → Limits xs
 unfolding within
 limits_of xs h =
-    let a = and_parts (in_layout xs) (nat_le (total xs) 4096) h in
+    let a = and_parts _ _ h in
     let l = layout_of xs a.0 in
-    record { some = l.some; few = l.few; fits = l.fits; small = leb-true (total xs) 4096 a.1 }
+    record { some = l.some; few = l.few; fits = l.fits; small = leb-true _ _ a.1 }

@@ -1,13 +1,17 @@
--- Inside a chart: what the tables say of the row in which a state stands.
-use Rattle.std.specs.Prelude.{◌≡◌, ℕ, ◌<◌, length, vec_items}
-use Rattle.charts.specs.declared.tables.RowEntry.{RowEntry}
+-- Inside a chart: the row in which a state stands, and the move that closes its list.
+use Rattle.std.specs.Prelude.{ℕ}
+use Rattle.lts.specs.declared.source.Move.{Move}
 use Rattle.charts.specs.declared.chart.Chart.{Chart}
-use Rattle.charts.specs.Rows.{total, row_at, first, row_of}
-use Rattle.charts.specs.Tables.{entry_row}
+use Rattle.charts.specs.declared.source.Closing.{Closing}
+use Rattle.charts.specs.declared.source.Closing.TheVariants.{Tick, Timeout}
+use Rattle.charts.specs.Rows.{Row, row_at, row_of}
 use Rattle.charts.specs.Charts.{rows_of}
 
-pub record Stands (c : Chart) (s : ℕ) (e : RowEntry) : Type 0 where
-  pub inside : s < total (rows_of c)
-  pub row : entry_row (vec_items c.tables.offers) e ≡ row_at (rows_of c) (row_of (rows_of c) s)
-  pub first : e.first ≡ first (rows_of c) (row_of (rows_of c) s)
-  pub count : e.offers ≡ length (row_at (rows_of c) (row_of (rows_of c) s)).offers
+-- the row in which the state s stands
+abbrev pub state_row : Chart → ℕ → Row
+state_row c s = row_at (rows_of c) (row_of (rows_of c) s)
+
+-- the move that closes the list
+abbrev pub closed_by : Closing → Move ℕ
+closed_by (Tick t) = record { label = 128; target = t }
+closed_by (Timeout t) = record { label = 0; target = t }

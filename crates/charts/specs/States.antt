@@ -1,8 +1,9 @@
 -- The states of a chart: the row of each, and where each row begins. Lemmas, which stand here since the law of the source
 -- cites them.
 use Rattle.std.specs.Prelude.{◌≡◌, ℕ, zero, suc, ◌+◌, ◌-◌, ◌<◌, ◌≤◌, true, List, [], ◌∷◌, length, replicate, nat_lt, slice_index, slice_index_or, refl}
-use Rattle.std.proofs.Common.{sym, ap, subst, ◌∙◌, inl, inr, arith, add-zero, add_assoc}
-use Rattle.std.proofs.lemmas.Bool.{cond-true, cond-false, cases_Bool, ltb-true, ltb-false, lt-ltb, le-ltb, and_parts}
+use Rattle.std.proofs.Common.{sym, ap, ◌∙◌, inl, inr, arith, add-zero, add_assoc}
+use Rattle.std.proofs.lemmas.Bool.Decides.{nat_tests}
+use Rattle.std.proofs.lemmas.Bool.{cases_Bool, ltb-true, ltb-false, and_parts}
 use Rattle.std.proofs.lemmas.List.{length-append, length-replicate, get_or_append_left, get_or-append_right, get_or-replicate}
 use Rattle.charts.specs.declared.row.Offer.{Offer}
 use Rattle.charts.specs.Rows.{Row, size, total, row_at, first, row_of, offer_fits, offers_fit, row_fits, rows_fit}
@@ -11,17 +12,17 @@ use Rattle.charts.specs.Tables.{owners, firsts}
 -- a state of the first row, and one of the others
 row_of_first : (x : Row) (xs : List Row) (s : ℕ) → s < size x → row_of (x ∷ xs) s ≡ 0
 unfolding row_of
-row_of_first x xs s h = cond-true (nat_lt s (size x)) 0 (suc (row_of xs (s - size x))) (lt-ltb s (size x) h)
+row_of_first x xs s h = grind (arith, nat_tests)
 
 row_of_later : (x : Row) (xs : List Row) (s : ℕ) → size x ≤ s → row_of (x ∷ xs) s ≡ suc (row_of xs (s - size x))
 unfolding row_of
-row_of_later x xs s h = cond-false (nat_lt s (size x)) 0 (suc (row_of xs (s - size x))) (le-ltb s (size x) h)
+row_of_later x xs s h = grind (arith, nat_tests)
 
 pub owners_length : (r : ℕ) (xs : List Row) → length (owners r xs) ≡ total xs
 unfolding owners total
 owners_length r [] = refl
 owners_length r (x ∷ xs) =
-    length-append (replicate (size x) r) (owners (suc r) xs) ∙ ap (λ j. j + length (owners (suc r) xs)) (length-replicate (size x) r) ∙ ap (λ j. size x + j) (owners_length (suc r) xs)
+    rw (length-append, length-replicate, owners_length (suc r) xs)
 
 pub owners_at : (r : ℕ) (xs : List Row) (s : ℕ) → s < total xs → slice_index (owners r xs) s ≡ r + row_of xs s
 unfolding owners total
@@ -49,20 +50,9 @@ unfolding first total
 row_begun [] s h = absurd (omega arith)
 row_begun (x ∷ xs) s h =
     elim (cases_Bool (nat_lt s (size x))) [
-      | inl q ↦ subst (λ j. first (x ∷ xs) j ≤ s) (sym (row_of_first x xs s (ltb-true s (size x) q))) (omega arith)
+      | inl q ↦ rw (row_of_first x xs s (ltb-true s (size x) q)) (omega arith)
       | inr q ↦ (let l = ltb-false s (size x) q in let rest = row_begun xs (s - size x) (omega arith) in
-          subst (λ j. first (x ∷ xs) j ≤ s) (sym (row_of_later x xs s l)) (omega arith))
-    ]
-
-pub row_lasts : (xs : List Row) (s : ℕ) → s < total xs → s < first xs (row_of xs s) + size (row_at xs (row_of xs s))
-unfolding first total
-row_lasts [] s h = absurd (omega arith)
-row_lasts (x ∷ xs) s h =
-    elim (cases_Bool (nat_lt s (size x))) [
-      | inl q ↦ (let l = ltb-true s (size x) q in
-          subst (λ j. s < first (x ∷ xs) j + size (row_at (x ∷ xs) j)) (sym (row_of_first x xs s l)) (omega arith))
-      | inr q ↦ (let l = ltb-false s (size x) q in let rest = row_lasts xs (s - size x) (omega arith) in
-          subst (λ j. s < first (x ∷ xs) j + size (row_at (x ∷ xs) j)) (sym (row_of_later x xs s l)) (omega arith))
+          rw (row_of_later x xs s l) (omega arith))
     ]
 
 pub firsts_length : (s : ℕ) (xs : List Row) → length (firsts s xs) ≡ length xs
@@ -86,11 +76,11 @@ row_ends (x ∷ xs) (suc r) h = let rest = row_ends xs r (omega arith) in omega 
 pub row_fits_at : (n : ℕ) (xs : List Row) (r : ℕ) → rows_fit n xs ≡ true → r < length xs → row_fits n (row_at xs r) ≡ true
 unfolding rows_fit
 row_fits_at n [] r h l = absurd (omega arith)
-row_fits_at n (x ∷ xs) zero h l = (and_parts (row_fits n x) (rows_fit n xs) h).0
-row_fits_at n (x ∷ xs) (suc r) h l = row_fits_at n xs r (and_parts (row_fits n x) (rows_fit n xs) h).1 (omega arith)
+row_fits_at n (x ∷ xs) zero h l = (and_parts _ _ h).0
+row_fits_at n (x ∷ xs) (suc r) h l = row_fits_at n xs r (and_parts _ _ h).1 (omega arith)
 
 pub offer_fits_at : (n : ℕ) (os : List Offer) (k : ℕ) (d : Offer) → offers_fit n os ≡ true → k < length os → offer_fits n (slice_index_or os k d) ≡ true
 unfolding offers_fit
 offer_fits_at n [] k d h l = absurd (omega arith)
-offer_fits_at n (o ∷ os) zero d h l = (and_parts (offer_fits n o) (offers_fit n os) h).0
-offer_fits_at n (o ∷ os) (suc k) d h l = offer_fits_at n os k d (and_parts (offer_fits n o) (offers_fit n os) h).1 (omega arith)
+offer_fits_at n (o ∷ os) zero d h l = (and_parts _ _ h).0
+offer_fits_at n (o ∷ os) (suc k) d h l = offer_fits_at n os k d (and_parts _ _ h).1 (omega arith)

@@ -1,28 +1,61 @@
-ghost use Rattle.std.specs.Prelude.{◌≡◌, ◌<◌, ◌≤◌, length, MatchResult, slice_index_or};
-ghost use Rattle.charts.specs.Rows.{total, row_at as row_numbered, first as first_of, row_of, second_of};
-ghost use Rattle.charts.specs.Meaning.{arrival as arrival_of, offer_move, closing_move};
+ghost use Rattle.std.specs.Prelude.{◌≡◌, ◌<◌, ◌≤◌, [], ◌∷◌, length, MatchResult};
+ghost use Rattle.lts.specs.Answers.{tick_of};
+ghost use Rattle.charts.specs.Rows.{total, first as first_of, second_of};
+ghost use Rattle.charts.specs.Meaning.{offer_move, closing_move};
 ghost use Rattle.charts.specs.Charts.{rows_of, meaning_of};
-ghost use Rattle.charts.specs.Standing.{Stands};
+ghost use Rattle.charts.specs.Standing.{state_row, closed_by};
 ghost use Rattle.charts.specs.Laws.{chart_lawful};
 
 use crate::chart::Chart;
 use crate::row::{Offer, Stay, seconds};
-use crate::tables::RowEntry;
 use lts::label::{TAU, TICK};
 use lts::{Move, OutOfRange, Source};
 
+// A state of a chart, with what the tables say of its row: how many seconds of
+// the row have passed, how long it is stayed in, and its offers.
+#[derive(Drop)]
+struct Standing<'a> {
+    chart: &'a Chart,
+    state: u32,
+    second: u32,
+    stay: Stay,
+    offers: &'a [Offer],
+    ghost inside: { state < total (rows_of chart.now) },
+    ghost since: { second ≡ second_of (rows_of chart.now) state },
+    ghost stays: { stay ≡ (state_row chart.now state).stay },
+    ghost offered: { offers.now ≡ (state_row chart.now state).offers },
+}
+
+// How a list of moves ends: with a tick, or with the timeout that leaves a row
+// whose dwell is over. Each holds the state that it leads to.
+enum Closing {
+    Tick(u32),
+    Timeout(u32),
+}
+
 impl Chart {
-    // The row in which the state `s` stands.
-    fn row_at(&self, s: u32) -> Result<RowEntry, OutOfRange>
-        ensures { MatchResult result (λ e. Stands self.now s e) (λ _. total (rows_of self.now) ≤ s) }
+    // The state with that number.
+    #[tactic(auto, using(crate::proofs::Answering::entries))]
+    fn standing(&self, state: u32) -> Result<Standing<'_>, OutOfRange>
+        ensures { MatchResult result (λ t. (t.chart.now ≡ self.now) × (t.state ≡ state)) (λ _. total (rows_of self.now) ≤ state) }
     {
-        let Some(number) = self.tables.owners.get(s as usize).copied() else {
+        let Some(&owner) = self.tables.owners.get(state as usize) else {
             return Err(OutOfRange);
         };
-        Ok(self.tables.rows[number as usize])
+        let row = self.tables.rows[owner as usize];
+        // The entry of a row without offers may name any place.
+        let offers = self.tables.offers.get(row.from..row.from + row.offers);
+        Ok(Standing {
+            chart: self,
+            state,
+            second: state - row.first,
+            stay: row.stay,
+            offers: offers.unwrap_or(&[]),
+        })
     }
 
     // The first state of the row with that number.
+    #[tactic(auto, using(crate::proofs::Answering::entries))]
     fn first(&self, row: u32) -> u32
         requires { row < length (rows_of self.now) }
         ensures { result ≡ first_of (rows_of self.now) row }
@@ -30,50 +63,57 @@ impl Chart {
         self.tables.rows[row as usize].first
     }
 
-    // The state at which an offer arrives.
-    fn arrival(&self, offer: Offer) -> u32
+    // The move to which an offer comes.
+    #[tactic(auto, unfolding(crate::specs::Meaning::arrival))]
+    fn offer_move(&self, offer: Offer) -> Move<u32>
         requires { offer.row < length (rows_of self.now) }
-        ensures { result ≡ arrival_of (rows_of self.now) offer }
+        ensures { result ≡ offer_move (rows_of self.now) offer }
     {
-        self.first(offer.row)
-    }
-
-    // The move to which the `k`-th offer of the state's row comes.
-    fn offer_move(&self, row: RowEntry, s: u32, k: u32) -> Move<u32>
-        requires stands { Stands self.now s row }
-        requires inside { k < row.offers }
-        ensures { result ≡ offer_move (rows_of self.now) (slice_index_or (row_numbered (rows_of self.now) (row_of (rows_of self.now) s)).offers k (record { label = 0; row = 0 })) }
-    {
-        let offer = self.tables.offers[row.from + k as usize];
         Move {
             label: offer.label,
-            target: self.arrival(offer),
+            target: self.first(offer.row),
+        }
+    }
+}
+
+impl Standing<'_> {
+    // What comes behind the offers.
+    #[tactic(auto, using(crate::proofs::Answering::answers), unfolding(crate::specs::Meaning::closing_move))]
+    fn closing(&self) -> Closing
+        ensures { closed_by result ≡ closing_move (rows_of self.now.chart.now) self.now.stay self.now.state self.now.second }
+    {
+        match self.stay {
+            Stay::Finite { tenths, .. } if self.second < seconds(tenths) => {
+                Closing::Tick(self.state + 1)
+            }
+            Stay::Finite { timeout, .. } => Closing::Timeout(self.chart.first(timeout)),
+            Stay::Endless => Closing::Tick(self.state),
+        }
+    }
+}
+
+impl Closing {
+    // It as a move.
+    fn step(self) -> Move<u32>
+        ensures { result ≡ closed_by self }
+    {
+        match self {
+            Closing::Tick(target) => Move {
+                label: TICK,
+                target,
+            },
+            Closing::Timeout(target) => Move { label: TAU, target },
         }
     }
 
-    // The move behind the offers.
-    fn closing_move(&self, row: RowEntry, s: u32) -> Move<u32>
-        requires { Stands self.now s row }
-        ensures { result ≡ closing_move (rows_of self.now) (row_numbered (rows_of self.now) (row_of (rows_of self.now) s)).stay s (second_of (rows_of self.now) s) }
+    // Where it leads if it is a tick.
+    #[tactic(auto, unfolding(lts::specs::Answers::tick_of))]
+    fn tick(self) -> Option<u32>
+        ensures { result ≡ tick_of (closed_by self ∷ []) }
     {
-        match row.stay {
-            Stay::Finite { tenths, timeout } => {
-                if s - row.first < seconds(tenths) {
-                    Move {
-                        label: TICK,
-                        target: s + 1,
-                    }
-                } else {
-                    Move {
-                        label: TAU,
-                        target: self.first(timeout),
-                    }
-                }
-            }
-            Stay::Endless => Move {
-                label: TICK,
-                target: s,
-            },
+        match self {
+            Closing::Tick(target) => Some(target),
+            Closing::Timeout(_) => None,
         }
     }
 }
@@ -83,34 +123,31 @@ impl Source for Chart {
 
     ghost lawful = { λ x. chart_lawful (rows_of x) x.limits };
 
+    #[tactic(auto, using(crate::proofs::Answering::entries))]
     fn states(&self) -> u32 {
         self.tables.owners.len() as u32
     }
 
+    #[tactic(auto, using(crate::proofs::Answering::answers))]
     fn move_count(&self, s: u32) -> Result<u32, OutOfRange> {
-        let row = self.row_at(s)?;
-        Ok(row.offers as u32 + 1)
+        let state = self.standing(s)?;
+        Ok(state.offers.len() as u32 + 1)
     }
 
+    #[tactic(auto, using(crate::proofs::Answering::answers))]
     fn move_at(&self, s: u32, k: u32) -> Result<Move<u32>, OutOfRange> {
-        let row = self.row_at(s)?;
-        let offers = row.offers;
-        let at = k as usize;
-        if at < offers {
-            return Ok(self.offer_move(row, s, k));
+        let state = self.standing(s)?;
+        let offers = state.offers;
+        match offers.get(k as usize) {
+            Some(offer) => Ok(self.offer_move(*offer)),
+            None if k as usize == offers.len() => Ok(state.closing().step()),
+            None => Err(OutOfRange),
         }
-        if at > offers {
-            return Err(OutOfRange);
-        }
-        Ok(self.closing_move(row, s))
     }
 
+    #[tactic(auto, using(crate::proofs::Answering::answers))]
     fn tick(&self, s: u32) -> Result<Option<u32>, OutOfRange> {
-        let row = self.row_at(s)?;
-        let last = self.closing_move(row, s);
-        if last.label == TICK {
-            return Ok(Some(last.target));
-        }
-        Ok(None)
+        let state = self.standing(s)?;
+        Ok(state.closing().tick())
     }
 }
