@@ -9,7 +9,7 @@ use crate::fault::ChartFault;
 use crate::row::{Offer, Stay};
 use lts::label::TAU;
 use lts::{MOST_STATES, is_visible};
-use words::{LONGEST, RowHead, WordFault, arrow};
+use words::{LONGEST, PlacedWord, RowHead, WordFault};
 
 // A row by its plain numbers: how long it is stayed in, and how many offers it
 // has.
@@ -74,7 +74,7 @@ impl Sums {
 fn read_timeout(word: u32, place: usize, rows: u32) -> Result<u32, WordFault>
     ensures { result ≡ timeout_in rows place word }
 {
-    let arrow = arrow(word, place)?;
+    let arrow = PlacedWord { word, place }.arrow()?;
     if arrow.label != TAU || arrow.target >= rows {
         return Err(WordFault::Range(place));
     }
@@ -85,7 +85,7 @@ fn read_timeout(word: u32, place: usize, rows: u32) -> Result<u32, WordFault>
 pub(crate) fn read_offer(word: u32, place: usize, rows: u32) -> Result<Offer, WordFault>
     ensures { result ≡ offer_in rows place word }
 {
-    let arrow = arrow(word, place)?;
+    let arrow = PlacedWord { word, place }.arrow()?;
     if !is_visible(arrow.label) || arrow.target >= rows {
         return Err(WordFault::Range(place));
     }
@@ -114,7 +114,7 @@ fn read_stay(words: &[u32], place: usize, rows: u32) -> Result<Stay, WordFault>
     let [head, rest @ ..] = words else {
         return Err(WordFault::Length(place));
     };
-    match words::row(*head, place)? {
+    match (PlacedWord { word: *head, place }).row()? {
         RowHead::Endless => Ok(Stay::Endless),
         RowHead::Dwell(tenths) => read_finite(rest, place + 1, tenths, rows),
     }
@@ -127,7 +127,7 @@ fn read_count(words: &[u32], place: usize) -> Result<u32, WordFault>
     let [next, ..] = words else {
         return Err(WordFault::Length(place));
     };
-    words::offers(*next, place)
+    PlacedWord { word: *next, place }.offers()
 }
 
 // Tests the words of `count` offers.
@@ -183,7 +183,11 @@ pub(crate) fn check(words: &[u32]) -> Result<u32, ChartFault>
     let [first, rest @ ..] = words else {
         return Err(ChartFault::Word(WordFault::Length(0)));
     };
-    let rows = words::rows(*first, 0)?;
+    let rows = PlacedWord {
+        word: *first,
+        place: 0,
+    }
+    .rows()?;
     let sums = read_rows(rest, rows, rows, START)?;
     if sums.place != words.len() {
         return Err(ChartFault::Word(WordFault::Length(sums.place)));

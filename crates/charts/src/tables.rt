@@ -8,7 +8,7 @@ use crate::reading::{RowRead, read_offer, read_row};
 use crate::row::{Offer, Stay};
 use lts::MOST_STATES;
 use std::alloc::{AllocError, Global};
-use words::{LONGEST, MOST_ROWS};
+use words::{LONGEST, MOST_ROWS, PlacedWord};
 
 // One row: its first state, and where its offers stand among all offers.
 #[derive(Clone, Copy)]
@@ -51,7 +51,11 @@ impl Tables {
         let [first, rest @ ..] = words else {
             unreachable();
         };
-        let Ok(rows) = words::rows(*first, 0) else {
+        let Ok(rows) = (PlacedWord {
+            word: *first,
+            place: 0,
+        })
+        .rows() else {
             unreachable();
         };
         self.rows.clear();
