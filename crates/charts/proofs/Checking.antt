@@ -1,119 +1,148 @@
 -- The check of a chart's words, by what it comes to.
-use Rattle.std.proofs.Common.{◌≡◌, ℕ, suc, ◌+◌, ◌<◌, ◌≤◌, cond, eqb, ltb, List, [], ◌∷◌, length, get_or, drop, Some, None, Ok, Err, Result, sym, ap, ◌∙◌, zero-add, arith}
+use Rattle.std.proofs.Common.{◌≡◌, ℕ, suc, ◌+◌, ◌<◌, ◌≤◌, Bool, true, false, cond, eqb, ltb, List, [], ◌∷◌, ◌++◌, length, Some, None, IfOk, Ok, Err, Option, Result, sym, refl, ap, ◌∙◌, add-zero, add_assoc, arith}
+use Rattle.std.specs.List.{sum_by}
 use Rattle.std.proofs.lemmas.Bool.{cond-true, cond-false, lt-ltb, le-ltb, eq-eqb, ne_eqb}
+use Rattle.std.proofs.lemmas.List.{length-drop}
+use Rattle.std.proofs.lemmas.List.Sums.{sum_by-cons}
 use Rattle.words.specs.declared.fault.WordFault.{WordFault}
 use Rattle.words.specs.declared.fault.WordFault.TheVariants.{Length}
 use Rattle.words.specs.Words.{rows_in}
+use Rattle.words.specs.Reading.{then, mapped}
 use Rattle.charts.specs.declared.fault.ChartFault.{ChartFault}
 use Rattle.charts.specs.declared.fault.ChartFault.TheVariants.{Word, TooManyStates}
-use Rattle.charts.specs.declared.reading.Sums.{Sums}
-use Rattle.charts.specs.Rows.{Row, total}
-use Rattle.charts.specs.Sums.{sums_over}
-use Rattle.words.specs.Reading.{then, mapped}
-use Rattle.charts.specs.Reading.{read_rows, rows_words, read_whole, read_chart, overflow, sized, tested, check_chart}
-use Rattle.words.proofs.Results.{mapped_ok, mapped_err}
-use Rattle.charts.proofs.RowsFaults.{sums_place, sums_states, sums_over_place}
+use Rattle.charts.specs.declared.row.Stay.{Stay}
+use Rattle.charts.specs.declared.reader.Reader.{Reader}
+use Rattle.charts.specs.Rows.{Row, size, stay_states, total}
+use Rattle.charts.specs.Reading.{read_rows, row_words, rows_words, read_whole, read_chart, overflow, sized, tested, check_chart}
+use Rattle.charts.specs.Reader.{Begun, ended, counted}
+use Rattle.charts.proofs.Accepted.{fits_if_none}
+use Rattle.charts.proofs.Turns.{Turned, rows_repeat, all_turned}
 
-abbrev start : Sums
-start = record { place = 1; states = 0; over = None }
+-- the words of a file up to the first row
 
--- what the check answers
+pub too_long : (ws : List ℕ) → 16384 < length ws → read_chart ws ≡ Err (Length 16384)
+unfolding read_chart
+too_long ws h = cond-true (ltb 16384 (length ws)) (Err (Length 16384)) (read_whole ws) (lt-ltb 16384 (length ws) h)
+
+short : (ws : List ℕ) → length ws ≤ 16384 → read_chart ws ≡ read_whole ws
+unfolding read_chart
+short ws h = cond-false (ltb 16384 (length ws)) (Err (Length 16384)) (read_whole ws) (le-ltb 16384 (length ws) h)
+
+pub no_words : (ws : List ℕ) → ws ≡ [] → read_chart ws ≡ Err (Length 0)
+unfolding read_whole
+no_words ws e = ap read_chart e ∙ short [] (omega arith)
+
+module _ (ws rest : List ℕ) (p w : ℕ) (l : length ws ≤ 16384) (e : ws ≡ w ∷ rest) (z : p ≡ 0) where
+  from_head : read_chart ws ≡ then (rows_in p w) (λ n. then (read_rows n 1 n rest) (ended rest))
+  unfolding read_whole
+  from_head = short ws l ∙ ap read_whole e ∙ ap (λ q. then (rows_in q w) (λ n. then (read_rows n 1 n rest) (ended rest))) (sym z)
+
+  pub bad_head : (f : WordFault) → Err f ≡ rows_in p w → read_chart ws ≡ Err f
+  bad_head f q = from_head ∙ ap (λ r. then r (λ n. then (read_rows n 1 n rest) (ended rest))) (sym q)
+
+  pub good_head : (n : ℕ) → Ok n ≡ rows_in p w → read_chart ws ≡ then (read_rows n 1 n rest) (ended rest)
+  good_head n q = from_head ∙ ap (λ r. then r (λ n. then (read_rows n 1 n rest) (ended rest))) (sym q)
+
+-- the states of rows before which there are s, up to the first row with which they are too many
+
+abbrev limited : Option ℕ → ℕ → Result ℕ ChartFault
+limited None n = Ok n
+limited (Some p) n = Err (TooManyStates p)
+
+by_size : (xs : List Row) (o : Option ℕ) → limited o (total xs) ≡ mapped total (sized xs o)
+by_size xs None = refl
+by_size xs (Some p) = refl
+
+one_before : (b : Bool) (p : ℕ) (o o' : Option ℕ) (t t' z q : ℕ)
+    → limited o t ≡ then (limited o' t') (λ n. counted (n + z) q) → limited (cond b (Some p) o) t ≡ then (limited (cond b (Some p) o') t') (λ n. counted (n + z) q)
+one_before true p o o' t t' z q e = refl
+one_before false p o o' t t' z q e = e
+
+limited_more : (s p : ℕ) (xs : List Row) (x : Row)
+    → limited (overflow s p (xs ++ (x ∷ []))) (s + total (xs ++ (x ∷ []))) ≡ then (limited (overflow s p xs) (s + total xs)) (λ n. counted (n + size x) (p + rows_words xs))
+unfolding overflow total rows_words
+limited_more s p [] x = by (ltb 4096 (s + size x)) refl
+  where
+    each : (b : Bool) → limited (cond b (Some p) None) (s + size x) ≡ cond b (Err (TooManyStates p)) (Ok (s + size x))
+    each true = refl
+    each false = refl
+
+    by : (b : Bool) → b ≡ ltb 4096 (s + size x) → limited (cond b (Some p) None) (s + (size x + 0)) ≡ cond (ltb 4096 (s + 0 + size x)) (Err (TooManyStates (p + 0))) (Ok (s + 0 + size x))
+    by b e =
+        ap (λ j. limited (cond b (Some p) None) (s + j)) (add-zero (size x)) ∙ each b
+        ∙ ap (λ c. cond c (Err (TooManyStates p)) (Ok (s + size x))) e
+        ∙ ap (λ j. cond (ltb 4096 (j + size x)) (Err (TooManyStates p)) (Ok (j + size x))) (sym (add-zero s))
+        ∙ ap (λ j. cond (ltb 4096 (s + 0 + size x)) (Err (TooManyStates j)) (Ok (s + 0 + size x))) (sym (add-zero p))
+limited_more s p (y ∷ ys) x =
+    one_before (ltb 4096 (s + size y)) p (overflow (s + size y) (p + row_words y) (ys ++ (x ∷ []))) (overflow (s + size y) (p + row_words y) ys) _ _ _ _
+    (ap (limited (overflow (s + size y) (p + row_words y) (ys ++ (x ∷ [])))) (sym (add_assoc s (size y) (total (ys ++ (x ∷ [])))))
+    ∙ limited_more (s + size y) (p + row_words y) ys x
+    ∙ ap (λ j. then (limited (overflow (s + size y) (p + row_words y) ys) j) (λ n. counted (n + size x) (p + row_words y + rows_words ys))) (add_assoc s (size y) (total ys))
+    ∙ ap (λ j. then (limited (overflow (s + size y) (p + row_words y) ys) (s + (size y + total ys))) (λ n. counted (n + size x) j)) (add_assoc p (row_words y) (rows_words ys)))
+
+-- the states of the rows of a file, or the place of the row with which they are too many
+abbrev pub Summed : List Row → Result ℕ ChartFault
+Summed xs = limited (overflow 0 1 xs) (0 + total xs)
+
+pub none_summed : Ok 0 ≡ Summed []
+unfolding overflow total
+none_summed = refl
+
+words_by : (xs : List Row) → sum_by row_words xs ≡ rows_words xs
+unfolding rows_words
+words_by [] = refl
+words_by (x ∷ xs) = sum_by-cons row_words x xs ∙ ap (λ j. row_words x + j) (words_by xs)
+
+module _ (r s : Reader) (i : ℕ) (xs : List Row) (h : Turned row_words read_rows r s r.rows i xs) (first : r.cursor.place ≡ 1) where
+  place_is : s.cursor.place ≡ 1 + rows_words xs
+  place_is = let b = h.behind.place in let w = words_by xs in omega arith
+
+  -- a row more, as the code has it
+  pub summed_more : (x : Row) (st : Stay) (p : ℕ) (z y : Result ℕ ChartFault) → st ≡ x.stay → p ≡ s.cursor.place → z ≡ Summed xs → y ≡ then z (λ n. counted (n + stay_states st) p) → y ≡ Summed (xs ++ (x ∷ []))
+  summed_more x st p z y stay place sums e =
+      e ∙ ap (λ v. then v (λ n. counted (n + stay_states st) p)) sums ∙ ap (λ (v : Stay). then (Summed xs) (λ n. counted (n + stay_states v) p)) stay
+      ∙ ap (λ q. then (Summed xs) (λ n. counted (n + size x) q)) (place ∙ place_is) ∙ sym (limited_more 0 1 xs x)
+
+pub few_states : (xs : List Row) → IfOk (Summed xs) (λ n. n ≤ 4096)
+few_states xs = by (overflow 0 1 xs) refl
+  where
+    by : (o : Option ℕ) → overflow 0 1 xs ≡ o → IfOk (limited o (0 + total xs)) (λ n. n ≤ 4096)
+    by None q = let l = fits_if_none 0 1 xs (omega arith) q in omega arith
+    by (Some p) q = tt
+
+-- what is known at the end
+
 abbrev Checked : List ℕ → Result ℕ ChartFault
 Checked ws = mapped total (check_chart ws)
 
-pub too_long : (ws : List ℕ) → 16384 < length ws → Err (Word (Length 16384)) ≡ Checked ws
-unfolding check_chart read_chart
-too_long ws h = ap (λ r. mapped total (tested r)) (sym (cond-true (ltb 16384 (length ws)) (Err (Length 16384)) (read_whole ws) (lt-ltb 16384 (length ws) h)))
+pub refused : (ws : List ℕ) (f : WordFault) → read_chart ws ≡ Err f → Err (Word f) ≡ Checked ws
+unfolding check_chart
+refused ws f e = ap (λ z. mapped total (tested z)) (sym e)
 
--- a file that is not too long is read as a whole
-short : (ws : List ℕ) → length ws ≤ 16384 → mapped total (tested (read_whole ws)) ≡ Checked ws
-unfolding check_chart read_chart
-short ws h = ap (λ r. mapped total (tested r)) (sym (cond-false (ltb 16384 (length ws)) (Err (Length 16384)) (read_whole ws) (le-ltb 16384 (length ws) h)))
+module _ (ws : List ℕ) (r : Reader) (b : Begun ws r) where
+  pub refused_behind : (f : WordFault) → read_rows r.rows r.cursor.place r.rows r.cursor.rest.now ≡ Err f → Err (Word f) ≡ Checked ws
+  refused_behind f e =
+      refused ws f (b.read ∙ ap (λ z. then z (ended r.cursor.rest.now)) (ap (λ p. read_rows r.rows p r.rows r.cursor.rest.now) (sym b.place) ∙ e))
 
-pub no_words : (ws : List ℕ) → length ws < 1 → Err (Word (Length 0)) ≡ Checked ws
-unfolding read_whole
-no_words [] h = short [] (omega arith)
-no_words (w ∷ ws) h = absurd (omega arith)
+  module _ (s : Reader) (i : ℕ) (xs : List Row) (h : Turned row_words read_rows r s r.rows i xs) (e : i ≡ r.rows) where
+    all : read_rows r.rows 1 r.rows r.cursor.rest.now ≡ Ok xs
+    all = ap (λ p. read_rows r.rows p r.rows r.cursor.rest.now) (sym b.place) ∙ all_turned rows_repeat r r.rows s i xs h e
 
-abbrev ended : List ℕ → List Row → Result (List Row) WordFault
-ended ws v = cond (eqb (rows_words v) (length ws)) (Ok v) (Err (Length (suc (rows_words v))))
+    at_end : read_chart ws ≡ ended r.cursor.rest.now xs
+    at_end = b.read ∙ ap (λ z. then z (ended r.cursor.rest.now)) all
 
-pub bad_head : (ws : List ℕ) → length ws ≤ 16384 → 0 < length ws → (f : WordFault) → Err f ≡ rows_in 0 (get_or ws 0 0) → Err (Word f) ≡ Checked ws
-unfolding read_whole
-bad_head [] l h f e = absurd (omega arith)
-bad_head (w ∷ ws) l h f e = ap (λ r. mapped total (tested (then r (λ n. then (read_rows n 1 n ws) (ended ws))))) e ∙ short (w ∷ ws) l
+    left : length s.cursor.rest.now + rows_words xs ≡ length r.cursor.rest.now
+    left = let l = ap length h.behind.rest ∙ length-drop (sum_by row_words xs) r.cursor.rest.now in let i = h.behind.inside in let w = words_by xs in omega arith
 
-module _ (n w : ℕ) (ws : List ℕ) (l : length (w ∷ ws) ≤ 16384) (head : Ok n ≡ rows_in 0 w) where
-  after_head : mapped total (tested (then (read_rows n 1 n ws) (ended ws))) ≡ Checked (w ∷ ws)
-  unfolding read_whole
-  after_head = ap (λ r. mapped total (tested (then r (λ n. then (read_rows n 1 n ws) (ended ws))))) head ∙ short (w ∷ ws) l
+    pub left_over : 0 < length s.cursor.rest.now → Err (Word (Length s.cursor.place)) ≡ Checked ws
+    left_over l =
+        let ne : rows_words xs ≡ length r.cursor.rest.now → ⊥ = λ q. (let k = left in omega arith) in
+        let p : s.cursor.place ≡ suc (rows_words xs) = place_is r s i xs h b.place ∙ (omega arith) in
+        refused ws (Length s.cursor.place) (at_end ∙ cond-false (eqb (rows_words xs) (length r.cursor.rest.now)) (Ok xs) (Err (Length (suc (rows_words xs)))) (ne_eqb _ _ ne) ∙ ap (λ j. Err (Length j)) (sym p))
 
-  rows_fault : (f : WordFault) → Err f ≡ mapped (sums_over start) (read_rows n 1 n ws) → Err (Word f) ≡ Checked (w ∷ ws)
-  rows_fault f e = ap (λ r. mapped total (tested (then r (ended ws)))) (sym (mapped_err (sums_over start) (read_rows n 1 n ws) f e)) ∙ after_head
-
-  -- what is known of the rows behind the sums
-  record Read (s : Sums) : Type 0 where
-    rows : List Row
-    are : read_rows n 1 n ws ≡ Ok rows
-    place : s.place ≡ 1 + rows_words rows
-    states : s.states ≡ total rows
-    over : s.over ≡ overflow 0 1 rows
-
-  read : (s : Sums) → Ok s ≡ mapped (sums_over start) (read_rows n 1 n ws) → Read s
-  read s e =
-      let a = mapped_ok (sums_over start) (read_rows n 1 n ws) s (sym e) in
-      record {
-        rows = a.0;
-        are = a.1.0;
-        place = ap (λ (v : Sums). v.place) (sym a.1.1) ∙ sums_place start a.0;
-        states = ap (λ (v : Sums). v.states) (sym a.1.1) ∙ sums_states start a.0 ∙ zero-add (total a.0);
-        over = ap (λ (v : Sums). v.over) (sym a.1.1) ∙ sums_over_place start a.0;
-      }
-
-  after_rows : (s : Sums) (r : Read s) → mapped total (tested (ended ws r.rows)) ≡ Checked (w ∷ ws)
-  after_rows s r = ap (λ v. mapped total (tested (then v (ended ws)))) (sym r.are) ∙ after_head
-
-  left_over : (s : Sums) → Ok s ≡ mapped (sums_over start) (read_rows n 1 n ws) → (s.place ≡ length (w ∷ ws) → ⊥) → Err (Word (Length s.place)) ≡ Checked (w ∷ ws)
-  left_over s e h =
-      let r = read s e in
-      let ne : rows_words r.rows ≡ length ws → ⊥ = λ q. h (r.place ∙ (let p = q in omega arith)) in
-      let place : s.place ≡ suc (rows_words r.rows) = omega (arith, r.place) in
-      ap (λ p. Err (Word (Length p))) place
-      ∙ ap (λ v. mapped total (tested v)) (sym (cond-false (eqb (rows_words r.rows) (length ws)) (Ok r.rows) (Err (Length (suc (rows_words r.rows)))) (ne_eqb (rows_words r.rows) (length ws) ne)))
-      ∙ after_rows s r
-
-  complete : (s : Sums) (r : Read s) → s.place ≡ length (w ∷ ws) → mapped total (sized r.rows s.over) ≡ Checked (w ∷ ws)
-  complete s r h =
-      let eq : rows_words r.rows ≡ length ws = omega (arith, r.place) in
-      ap (λ o. mapped total (sized r.rows o)) r.over
-      ∙ ap (λ v. mapped total (tested v)) (sym (cond-true (eqb (rows_words r.rows) (length ws)) (Ok r.rows) (Err (Length (suc (rows_words r.rows)))) (eq-eqb (rows_words r.rows) (length ws) eq)))
-      ∙ after_rows s r
-
-  too_many : (s : Sums) → Ok s ≡ mapped (sums_over start) (read_rows n 1 n ws) → s.place ≡ length (w ∷ ws) → (p : ℕ) → s.over ≡ Some p → Err (TooManyStates p) ≡ Checked (w ∷ ws)
-  too_many s e h p o = let r = read s e in ap (λ v. mapped total (sized r.rows v)) (sym o) ∙ complete s r h
-
-  taken : (s : Sums) → Ok s ≡ mapped (sums_over start) (read_rows n 1 n ws) → s.place ≡ length (w ∷ ws) → s.over ≡ None → Ok s.states ≡ Checked (w ∷ ws)
-  taken s e h o = let r = read s e in ap (λ v. Ok v) r.states ∙ ap (λ v. mapped total (sized r.rows v)) (sym o) ∙ complete s r h
-
--- the same over the whole list, as the code has it: its first word, and the rest
-abbrev Taken : ℕ → List ℕ → List ℕ → Type 0
-Taken n ws rest = (length ws ≤ 16384) × (0 < length ws) × (rest ≡ drop 1 ws) × (Ok n ≡ rows_in 0 (get_or ws 0 0))
-
-abbrev SumsOf : ℕ → List ℕ → Result Sums WordFault
-SumsOf n rest = mapped (sums_over start) (read_rows n 1 n rest)
-
-pub bad_rows : (n : ℕ) (ws rest : List ℕ) → Taken n ws rest → (f : WordFault) → Err f ≡ SumsOf n rest → Err (Word f) ≡ Checked ws
-bad_rows n [] rest t f q = absurd (omega (arith, t.1))
-bad_rows n (w ∷ ws) rest t f q = rows_fault n w ws t.0 t.3 f (q ∙ ap (SumsOf n) t.2)
-
-pub words_left : (n : ℕ) (ws rest : List ℕ) → Taken n ws rest → (s : Sums) → Ok s ≡ SumsOf n rest → (s.place ≡ length ws → ⊥) → Err (Word (Length s.place)) ≡ Checked ws
-words_left n [] rest t s q h = absurd (omega (arith, t.1))
-words_left n (w ∷ ws) rest t s q h = left_over n w ws t.0 t.3 s (q ∙ ap (SumsOf n) t.2) h
-
-pub over_limit : (n : ℕ) (ws rest : List ℕ) → Taken n ws rest → (s : Sums) → Ok s ≡ SumsOf n rest → s.place ≡ length ws → (p : ℕ) → s.over ≡ Some p → Err (TooManyStates p) ≡ Checked ws
-over_limit n [] rest t s q h p o = absurd (omega (arith, t.1))
-over_limit n (w ∷ ws) rest t s q h p o = too_many n w ws t.0 t.3 s (q ∙ ap (SumsOf n) t.2) h p o
-
-pub accepted : (n : ℕ) (ws rest : List ℕ) → Taken n ws rest → (s : Sums) → Ok s ≡ SumsOf n rest → s.place ≡ length ws → s.over ≡ None → Ok s.states ≡ Checked ws
-accepted n [] rest t s q h o = absurd (omega (arith, t.1))
-accepted n (w ∷ ws) rest t s q h o = taken n w ws t.0 t.3 s (q ∙ ap (SumsOf n) t.2) h o
+    pub complete : s.cursor.rest.now ≡ [] → Summed xs ≡ Checked ws
+    unfolding check_chart
+    complete none =
+        let eq : rows_words xs ≡ length r.cursor.rest.now = (let k = left in let z = ap length none in omega arith) in
+        ap (limited (overflow 0 1 xs)) (let z : 0 + total xs ≡ total xs = omega arith in z) ∙ by_size xs (overflow 0 1 xs)
+        ∙ ap (λ z. mapped total (tested z)) (sym (at_end ∙ cond-true (eqb (rows_words xs) (length r.cursor.rest.now)) (Ok xs) (Err (Length (suc (rows_words xs)))) (eq-eqb _ _ eq)))

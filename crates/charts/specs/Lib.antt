@@ -2,7 +2,7 @@ pub mod Rows
 pub mod Meaning
 pub mod Faults
 pub mod Reading
-pub mod Sums
+pub mod Reader
 pub mod Encoding
 pub mod Refusals
 pub mod Tables

@@ -1,19 +1,11 @@
 -- Inside a chart: its rows, its offers and the row of each state as three tables.
-use Rattle.std.specs.Prelude.{◌≡◌, ℕ, suc, ◌+◌, ◌≤◌, List, [], ◌∷◌, ◌++◌, map, length, take, drop, replicate, Ok, Err, vec_items, vec_capacity, Result}
-use Rattle.lts.specs.Meaning.{most_states}
-use Rattle.words.specs.Words.{most_rows}
-use Rattle.words.specs.Bytes.{longest}
+use Rattle.std.specs.Prelude.{◌≡◌, ℕ, suc, ◌+◌, List, [], ◌∷◌, ◌++◌, map, length, take, drop, replicate, vec_items}
 use Rattle.charts.specs.declared.row.Offer.{Offer}
 use Rattle.charts.specs.declared.tables.RowEntry.{RowEntry}
 use Rattle.charts.specs.declared.tables.Tables.{Tables}
 use Rattle.charts.specs.declared.reading.RowRead.{RowRead}
 use Rattle.charts.specs.Rows.{Row, size}
-use Rattle.charts.specs.Sums.{row_read}
-
--- what was read, or d
-abbrev pub good : {X E : Type 0} → X → Result X E → X
-good d (Ok x) = x
-good d (Err e) = d
+use Rattle.charts.specs.Reader.{row_read}
 
 -- the rows that the tables hold
 abbrev pub entry_row : List Offer → RowEntry → Row
@@ -54,23 +46,12 @@ firsts s (x ∷ xs) = s ∷ firsts (s + size x) xs
 abbrev pub offer_counts : List Row → List ℕ
 offer_counts xs = map (λ x. length x.offers) xs
 
--- tables with the rows xs behind those that were there
-pub record Grown (es es' : List RowEntry) (os os' : List Offer) (ns ns' : List ℕ) (xs : List Row) : Type 0 where
-  pub entries : es' ≡ es ++ laid (length ns) (length os) xs
-  pub offers : os' ≡ os ++ all_offers xs
-  pub owners : ns' ≡ ns ++ owners (length es) xs
-
-abbrev pub Grows : Tables → Tables → List Row → Type 0
-Grows t u xs = Grown (vec_items t.rows) (vec_items u.rows) (vec_items t.offers) (vec_items u.offers) (vec_items t.owners) (vec_items u.owners) xs
-
 -- the tables are those of their rows
 pub record Held (t : Tables) (xs : List Row) : Type 0 where
   pub entries : vec_items t.rows ≡ laid 0 0 xs
   pub offers : vec_items t.offers ≡ all_offers xs
   pub owners : vec_items t.owners ≡ owners 0 xs
 
--- room for every chart
-pub record Room (t : Tables) : Type 0 where
-  pub rows : most_rows ≤ vec_capacity t.rows
-  pub offers : longest ≤ vec_capacity t.offers
-  pub owners : most_states ≤ vec_capacity t.owners
+-- the row x is added to those that the tables t hold
+abbrev pub Adds : Tables → Tables → Row → Type 0
+Adds t u x = (xs : List Row) → Held t xs → Held u (xs ++ (x ∷ []))

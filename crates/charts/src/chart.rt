@@ -1,7 +1,4 @@
-ghost use Rattle.std.specs.Prelude.{◌≡◌, ◌≤◌, true, vec_capacity};
-ghost use Rattle.lts.specs.Meaning.{most_states};
-ghost use Rattle.words.specs.Words.{most_rows};
-ghost use Rattle.words.specs.Bytes.{longest};
+ghost use Rattle.std.specs.Prelude.{◌≡◌, ◌≤◌, true};
 ghost use Rattle.charts.specs.Rows.{within};
 ghost use Rattle.charts.specs.Tables.{table_rows, entry_firsts, entry_counts, firsts, offer_counts, owners};
 
@@ -13,6 +10,8 @@ use crate::tables::Tables;
 #[derive(Drop)]
 pub struct Chart {
     pub(crate) tables: Tables,
+    // Whether a file was accepted. A place holds a chart in either case, so this is
+    // no `Option` of one.
     pub(crate) opened: bool,
     // The tables agree with the rows that they hold: the first state of each
     // row, its number of offers, and the row of each state.
@@ -21,10 +20,6 @@ pub struct Chart {
     ghost owned: { tables.owners.items ≡ owners 0 (table_rows tables) },
     // The rows are a chart within the limits.
     ghost limits: { within (table_rows tables) ≡ true },
-    // There is room for every other chart.
-    ghost row_room: { most_rows ≤ vec_capacity tables.rows },
-    ghost offer_room: { longest ≤ vec_capacity tables.offers },
-    ghost owner_room: { most_states ≤ vec_capacity tables.owners },
 }
 
 impl Chart {

@@ -3,7 +3,9 @@
 
 pub mod chart;
 pub mod fault;
+mod filling;
 mod opening;
+mod reader;
 mod reading;
 mod row;
 pub mod source;

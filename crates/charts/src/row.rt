@@ -1,5 +1,5 @@
-ghost use Rattle.std.specs.Prelude.{◌≡◌, ◌^◌, ◌<◌};
-ghost use Rattle.charts.specs.Rows.{seconds as whole_seconds, last_second, stay_states, stay_words};
+ghost use Rattle.std.specs.Prelude.{◌≡◌, ◌^◌, ◌<◌, ◌≤◌};
+ghost use Rattle.charts.specs.Rows.{seconds as whole_seconds, last_second, stay_states};
 
 // How long a row is stayed in. A finite row is left by itself when its dwell,
 // in tenths of a second, is over, to the timeout row; an endless row never is.
@@ -38,18 +38,9 @@ impl Stay {
 
     // How many states the row has.
     pub(crate) fn states(self) -> u32
-        ensures { result ≡ stay_states self }
+        ensures value { result ≡ stay_states self }
+        ensures bound { result ≤ 2 ^ 31 }
     {
         self.last_second() + 1
-    }
-
-    // How many words say it: D and its timeout, or E.
-    pub(crate) fn words(self) -> usize
-        ensures { result ≡ stay_words self }
-    {
-        match self {
-            Stay::Finite { .. } => 2,
-            Stay::Endless => 1,
-        }
     }
 }

@@ -1,40 +1,46 @@
-use Rattle.std.proofs.Common.{◌<◌, length, rules}
-use Rattle.std.proofs.lemmas.List.{take_rest}
+use Rattle.std.proofs.Common.{[], ◌∙◌, ap, arith}
 use Rattle.std.proofs.lemmas.Result.{err_from_is_err_and}
-use Rattle.charts.proofs.Checking.{too_long, no_words, bad_head, bad_rows, words_left, over_limit, accepted}
+use Rattle.charts.specs.declared.reading.RowRead.{RowRead}
+use Rattle.charts.proofs.Turns.{rows_repeat, none_turned, turned_more, turn_fails}
+use Rattle.charts.proofs.Heads.{plain_row, plain_fault}
+use Rattle.charts.proofs.Checking.{none_summed, summed_more, few_states, refused, refused_behind, left_over, complete}
 use Rattle.charts.proofs.reading.check.Goals as goal
 
-pub returns-then-words-gt-LONGEST : goal.returns-then-words-gt-LONGEST
-returns-then-words-gt-LONGEST c = too_long c.args.words.now c.if-words-gt-LONGEST.true
-
-pub returns-in_default : goal.returns-in_default
-returns-in_default c =
-    let h : length c.args.words.now < 1 = search rules in
-    no_words c.args.words.now h
-
-pub returns-in_err-rows : goal.returns-in_err-rows
-returns-in_err-rows c =
-    let h : 0 < length c.args.words.now = search rules in
+pub returns-in_err-reader : goal.returns-in_err-reader
+returns-in_err-reader c =
     let p = err_from_is_err_and c.from_residual.result c.from_residual.ensures.1 in
-    rw (p.1, p.2) (bad_head c.args.words.now c.if-words-gt-LONGEST.false h c.in_err-rows.field-0.0 c.in_err-rows.ensures)
+    rw (p.1, p.2) (refused c.args.words.now _ c.in_err-reader.ensures)
 
-pub returns-in_err-sums : goal.returns-in_err-sums
-returns-in_err-sums c =
-    let h : 0 < length c.args.words.now = search rules in
-    let p = err_from_is_err_and c.from_residual-in_err-sums.result c.from_residual-in_err-sums.ensures.1 in
-    rw (p.1, p.2) (bad_rows c.in_ok-rows.rows c.args.words.now _ (c.if-words-gt-LONGEST.false, h, take_rest c.args.words.now 1, c.in_ok-rows.ensures) c.in_err-sums.field-0.0 c.in_err-sums.ensures)
+pub loop-init : goal.loop-init
+loop-init c = record { rows = []; turned = none_turned rows_repeat c.in_ok-reader.reader c.in_ok-reader.reader.rows; sums = none_summed }
 
-pub returns-then-sums-words : goal.returns-then-sums-words
-returns-then-sums-words c =
-    let h : 0 < length c.args.words.now = search rules in
-    words_left c.in_ok-rows.rows c.args.words.now _ (c.if-words-gt-LONGEST.false, h, take_rest c.args.words.now 1, c.in_ok-rows.ensures) c.in_ok-sums.sums c.in_ok-sums.ensures c.if-sums-words.true
+pub returns-in_err-row : goal.returns-in_err-row
+returns-in_err-row c =
+    let p = err_from_is_err_and c.from_residual-in_err-row.result c.from_residual-in_err-row.ensures.1 in
+    let i = c.loop.invariant in
+    rw (p.1, p.2) (refused_behind c.args.words.now c.in_ok-reader.reader c.in_ok-reader.ensures _ (turn_fails rows_repeat _ _ _ _ _ i.turned c.loop-test.true (plain_fault _ _ _ c.in_err-row.ensures)))
 
-pub returns-in-Some : goal.returns-in-Some
-returns-in-Some c =
-    let h : 0 < length c.args.words.now = search rules in
-    over_limit c.in_ok-rows.rows c.args.words.now _ (c.if-words-gt-LONGEST.false, h, take_rest c.args.words.now 1, c.in_ok-rows.ensures) c.in_ok-sums.sums c.in_ok-sums.ensures c.if-sums-words.false c.in-Some.place c.in-Some.is
+pub add_states-states-requires : goal.add_states-states-requires
+add_states-states-requires c = rw c.loop.invariant.sums (few_states c.loop.invariant.rows)
 
-pub returns-in-None : goal.returns-in-None
-returns-in-None c =
-    let h : 0 < length c.args.words.now = search rules in
-    accepted c.in_ok-rows.rows c.args.words.now _ (c.if-words-gt-LONGEST.false, h, take_rest c.args.words.now 1, c.in_ok-rows.ensures) c.in_ok-sums.sums c.in_ok-sums.ensures c.if-sums-words.false c.in-None.is
+pub loop-preserved : goal.loop-preserved
+loop-preserved c =
+    let i = c.loop.invariant in
+    let x = plain_row _ _ _ c.in_ok-row.ensures in
+    record {
+      rows = _;
+      turned = turned_more rows_repeat _ _ _ _ _ i.turned c.loop-test.true _ x.0 x.2;
+      sums = summed_more _ _ _ _ i.turned c.in_ok-reader.ensures.place x.0 _ _ _ _ (ap (λ (v : RowRead). v.stay) x.1) c.place-place.ensures i.sums c.add_states-states.ensures;
+    }
+
+pub returns-in_err-end : goal.returns-in_err-end
+returns-in_err-end c =
+    let p = err_from_is_err_and c.from_residual-in_err-end.result c.from_residual-in_err-end.ensures.1 in
+    let i = c.loop.invariant in
+    let e = c.in_err-end.ensures in
+    rw (p.1, p.2, e.1) (left_over c.args.words.now c.in_ok-reader.reader c.in_ok-reader.ensures _ _ _ i.turned (omega arith) e.0)
+
+pub returns : goal.returns
+returns c =
+    let i = c.loop.invariant in
+    i.sums ∙ complete c.args.words.now c.in_ok-reader.reader c.in_ok-reader.ensures _ _ _ i.turned (omega arith) c.in_ok-end.ensures

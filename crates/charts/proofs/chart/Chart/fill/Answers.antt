@@ -1,11 +1,8 @@
-use Rattle.std.proofs.Common.{[], refl}
+use Rattle.std.proofs.Common.{refl}
 use Rattle.std.proofs.lemmas.Result.{err_from_is_err_and}
 use Rattle.std.proofs.lemmas.Bool.{false≢true}
-use Rattle.charts.specs.Reading.{check_chart}
-use Rattle.charts.specs.Tables.{good}
 use Rattle.charts.proofs.FirstFault.{refused_for}
 use Rattle.charts.proofs.Placing.{refused, filled}
-use Rattle.charts.proofs.Refilling.{held_sound}
 use Rattle.charts.proofs.chart.Chart.fill.Goals as goal
 
 pub returns-in_err-states : goal.returns-in_err-states
@@ -16,12 +13,10 @@ returns-in_err-states c =
 
 pub invariant_of-self : goal.invariant_of-self
 invariant_of-self c =
-    let s = held_sound c.refill.new.self (good [] (check_chart c.args.words.now)) c.refill.ensures.held in
-    let f = filled c.args.words.now c.refill.new.self c.in_ok-states.states c.in_ok-states.ensures c.refill.ensures.held in
-    let r = c.refill.ensures.room in
-    record { firsts = s.firsts; counts = s.counts; owned = s.owned; limits = f.encodes.limits; row_room = r.rows; offer_room = r.offers; owner_room = r.owners }
+    let f = filled c.args.words.now c.refill.new.self c.in_ok-states.states c.in_ok-states.ensures c.refill.ensures in
+    record { firsts = f.sound.firsts; counts = f.sound.counts; owned = f.sound.owned; limits = f.encodes.limits }
 
 pub returns : goal.returns
 returns c =
-    let f = filled c.args.words.now c.refill.new.self c.in_ok-states.states c.in_ok-states.ensures c.refill.ensures.held in
-    record { accepted = ((λ _. f.file), (λ _. refl)); refused = tt; encodes = f.encodes; place = (f.read, f.states, refl) }
+    let f = filled c.args.words.now c.refill.new.self c.in_ok-states.states c.in_ok-states.ensures c.refill.ensures in
+    record { accepted = ((λ _. (_, f.encodes)), (λ _. refl)); refused = tt; encodes = f.encodes; place = (f.read, f.states, refl) }
