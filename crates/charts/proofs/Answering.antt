@@ -5,7 +5,8 @@ use Rattle.std.proofs.lemmas.Bool.{and_parts, ltb-true}
 use Rattle.std.specs.Slice.{IsGetRangeResult}
 use Rattle.lts.specs.declared.source.Move.{Move}
 use Rattle.lts.specs.Answers.{out_of_range, tick_of, move_count, nth_move, tick_target}
-use Rattle.lts.proofs.Asked.{no_move, counted, not_counted, found, no_state, past_moves, ticked, not_ticked}
+use Rattle.lts.specs.Meaning.{no_move}
+use Rattle.lts.proofs.Asked.{counted, not_counted, found, no_state, past_moves, ticked, not_ticked}
 use Rattle.charts.specs.declared.row.Stay.TheVariants.{Finite, Endless}
 use Rattle.charts.specs.declared.row.Offer.{Offer}
 use Rattle.charts.specs.declared.tables.RowEntry.{RowEntry}

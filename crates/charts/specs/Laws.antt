@@ -13,9 +13,8 @@ use Rattle.std.proofs.lemmas.List.{append-nil, length-append, length-map, get_or
 use Rattle.lts.specs.declared.source.Move.{Move}
 use Rattle.lts.specs.Labels.{label, visible}
 use Rattle.words.specs.Words.{most_tenths}
-use Rattle.lts.specs.Meaning.{Laws, Lawful}
+use Rattle.lts.specs.Meaning.{Laws, Lawful, no_move}
 use Rattle.lts.specs.Answers.{tick_of}
-use Rattle.lts.proofs.Asked.{no_move}
 use Rattle.lts.proofs.Parting.{silent, Acts, Parted, relawed}
 use Rattle.charts.specs.declared.row.Stay.{Stay}
 use Rattle.charts.specs.declared.row.Stay.TheVariants.{Finite, Endless}
@@ -40,9 +39,12 @@ pub visible_no_tau : (a : ℕ) → visible a ≡ true → a ≢ 0
 unfolding visible
 visible_no_tau a h = grind (arith, nat_tests)
 
--- a move with a visible label
+abbrev Visible : Move ℕ → Type 0
+Visible m = visible m.label ≡ true
+
+-- a move with a visible label, to one of n states
 abbrev Offered : ℕ → Move ℕ → Type 0
-Offered n m = (visible m.label ≡ true) × (m.target < n)
+Offered n m = Visible m × (m.target < n)
 
 -- a move that closes a list: τ or a tick
 abbrev Closes : ℕ → Move ℕ → Type 0
@@ -94,11 +96,11 @@ closed_lawful n vs c few offers (inl e, h) = rw e (tau_lawful n vs few offers c.
 closed_lawful n vs c few offers (inr e, h) = rw e (tick_lawful n vs few offers c.target h)
 
 -- the tick of a list of offers that is closed by c
-pub closed_tick : (n : ℕ) (vs : List (Move ℕ)) (c : Move ℕ) → AllByRecursion (Offered n) vs → tick_of (vs ++ (c ∷ [])) ≡ tick_of (c ∷ [])
+pub closed_tick : (vs : List (Move ℕ)) (c : Move ℕ) → AllByRecursion Visible vs → tick_of (vs ++ (c ∷ [])) ≡ tick_of (c ∷ [])
 unfolding tick_of
-closed_tick n [] c h = refl
-closed_tick n (v ∷ vs) c h =
-    cond-false (v.label == 128) (Some v.target) (tick_of (vs ++ (c ∷ []))) (ne_eqb v.label 128 (visible_no_tick v.label h.0.0)) ∙ closed_tick n vs c h.1
+closed_tick [] c h = refl
+closed_tick (v ∷ vs) c h =
+    cond-false (v.label == 128) (Some v.target) (tick_of (vs ++ (c ∷ []))) (ne_eqb v.label 128 (visible_no_tick v.label h.0)) ∙ closed_tick vs c h.1
 
 -- the state s of a chart
 module _ (xs : List Row) (limits : Limits xs) (s : ℕ) (inside : s < total xs) where
@@ -170,7 +172,8 @@ module _ (xs : List Row) (limits : Limits xs) (s : ℕ) (inside : s < total xs) 
       (omega (arith, few_offers, length-map row.offers (offer_move xs))) offers_lead_on (closing row.stay refl)
 
   pub state_tick : tick_of ((chart_meaning xs).moves s) ≡ tick_of (closing_move xs row.stay s (second_of xs s) ∷ [])
-  state_tick = closed_tick (total xs) (map (offer_move xs) row.offers) (closing_move xs row.stay s (second_of xs s)) offers_lead_on
+  state_tick =
+      closed_tick (map (offer_move xs) row.offers) (closing_move xs row.stay s (second_of xs s)) (All-weaker (Offered (total xs)) Visible (λ m h. h.0) _ offers_lead_on)
 
 some_states : (xs : List Row) → 1 ≤ length xs → 1 ≤ total xs
 unfolding total

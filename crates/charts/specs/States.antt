@@ -1,7 +1,7 @@
 -- The states of a chart: the row of each, and where each row begins. Lemmas, which stand here since the law of the source
 -- cites them.
 use Rattle.std.specs.Prelude.{◌≡◌, ℕ, zero, suc, ◌+◌, ◌-◌, ◌<◌, ◌≤◌, true, List, [], ◌∷◌, length, replicate, nat_lt, slice_index, slice_index_or, refl}
-use Rattle.std.proofs.Common.{sym, ap, ◌∙◌, inl, inr, arith, add-zero, add_assoc}
+use Rattle.std.proofs.Common.{sym, ap, subst, ◌∙◌, inl, inr, arith, add-zero, add_assoc}
 use Rattle.std.proofs.lemmas.Bool.Decides.{nat_tests}
 use Rattle.std.proofs.lemmas.Bool.{cases_Bool, ltb-true, ltb-false, and_parts}
 use Rattle.std.proofs.lemmas.List.{length-append, length-replicate, get_or_append_left, get_or-append_right, get_or-replicate}
@@ -44,7 +44,7 @@ row_inside (x ∷ xs) s h =
       | inr q ↦ (let l = ltb-false s (size x) q in let e = row_of_later x xs s l in let rest = row_inside xs (s - size x) (omega arith) in omega arith)
     ]
 
--- the state stands in its row
+-- the state stands in its row: it does not come before it
 pub row_begun : (xs : List Row) (s : ℕ) → s < total xs → first xs (row_of xs s) ≤ s
 unfolding first total
 row_begun [] s h = absurd (omega arith)
@@ -53,6 +53,18 @@ row_begun (x ∷ xs) s h =
       | inl q ↦ rw (row_of_first x xs s (ltb-true s (size x) q)) (omega arith)
       | inr q ↦ (let l = ltb-false s (size x) q in let rest = row_begun xs (s - size x) (omega arith) in
           rw (row_of_later x xs s l) (omega arith))
+    ]
+
+-- and does not outlast it
+pub row_lasts : (xs : List Row) (s : ℕ) → s < total xs → s < first xs (row_of xs s) + size (row_at xs (row_of xs s))
+unfolding first total
+row_lasts [] s h = absurd (omega arith)
+row_lasts (x ∷ xs) s h =
+    elim (cases_Bool (nat_lt s (size x))) [
+      | inl q ↦ (let l = ltb-true s (size x) q in
+          subst (λ j. s < first (x ∷ xs) j + size (row_at (x ∷ xs) j)) (sym (row_of_first x xs s l)) (omega arith))
+      | inr q ↦ (let l = ltb-false s (size x) q in let rest = row_lasts xs (s - size x) (omega arith) in
+          subst (λ j. s < first (x ∷ xs) j + size (row_at (x ∷ xs) j)) (sym (row_of_later x xs s l)) (omega arith))
     ]
 
 pub firsts_length : (s : ℕ) (xs : List Row) → length (firsts s xs) ≡ length xs
