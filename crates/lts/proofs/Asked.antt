@@ -3,6 +3,7 @@ use Rattle.std.proofs.Common.{◌≡◌, ℕ, ◌<◌, ◌≤◌, ◌&&◌, ltb,
 use Rattle.std.proofs.lemmas.Option.{slice_get-get_or, slice_get_past}
 use Rattle.std.specs.List.{slice_get}
 use Rattle.std.specs.Option.{ok_or}
+use Rattle.std.specs.Result.{result_ok}
 use Rattle.std.proofs.lemmas.Bool.{cond-true, cond-false, and_from, and_left, and_right, lt-ltb, le-ltb, cases_lt}
 use Rattle.lts.specs.declared.source.Move.{Move}
 use Rattle.lts.specs.declared.source.OutOfRange.{OutOfRange}
@@ -95,4 +96,12 @@ module _ (m : Meaning) (s : ℕ) where
       elim (cases_lt k (length (m.moves s))) [
         | inl l ↦ ap (λ o. ok_or o out_of_range) (slice_get-get_or (m.moves s) k no_move l) ∙ sym (found k h l)
         | inr l ↦ ap (λ o. ok_or o out_of_range) (slice_get_past (m.moves s) k l) ∙ sym (past_moves k l)
+      ]
+
+  -- and the other way round
+  pub nth_given : (k : ℕ) → s < m.count → result_ok (nth_move m s k) ≡ slice_get (m.moves s) k
+  nth_given k h =
+      elim (cases_lt k (length (m.moves s))) [
+        | inl l ↦ ap result_ok (found k h l) ∙ sym (slice_get-get_or (m.moves s) k no_move l)
+        | inr l ↦ ap result_ok (past_moves k l) ∙ sym (slice_get_past (m.moves s) k l)
       ]

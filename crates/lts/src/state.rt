@@ -1,6 +1,7 @@
 // The states of a source, each with its moves in order.
 
 ghost use Rattle.std.specs.Prelude.{◌≡◌, ◌<◌, ◌≤◌, drop, length, MatchResult};
+ghost use Rattle.std.specs.List.{slice_get};
 ghost use Rattle.std.specs.Iterator.{YieldsFirst, item_count};
 ghost use Rattle.lts.specs.Answers.{tick_of};
 
@@ -50,6 +51,14 @@ impl<'a, S: Source> State<'a, S> {
             Ok(count) => count,
             Err(_) => unreachable(),
         }
+    }
+
+    // Its `k`-th move, if it has so many.
+    #[tactic(auto, using(crate::proofs::Asked::nth_given))]
+    pub fn move_at(&self, k: u32) -> Option<Move<u32>>
+        ensures { result ≡ slice_get ((S.meaning self.now.source.now).moves self.now.number) k }
+    {
+        self.source.move_at(self.number, k).ok()
     }
 
     // Its moves, in order.

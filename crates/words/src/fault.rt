@@ -31,9 +31,7 @@ impl Refusal for WordFault {
     // The place of the word, counted from 0.
     fn place(self) -> usize {
         match self {
-            WordFault::Length(place) => place,
-            WordFault::Form(place) => place,
-            WordFault::Range(place) => place,
+            WordFault::Length(place) | WordFault::Form(place) | WordFault::Range(place) => place,
         }
     }
 }
