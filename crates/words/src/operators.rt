@@ -7,6 +7,8 @@ use crate::fault::WordFault;
 use crate::kind::Kind;
 use crate::term::{Delay, Operator};
 use crate::word::PlacedWord;
+use lts::is_label;
+use lts::label::TICK;
 
 impl PlacedWord {
     // An operator with nothing in its payload.
@@ -20,6 +22,7 @@ impl PlacedWord {
     }
 
     // A prefix by a label, which is no tick.
+    #[tactic(auto, unfolding(lts::specs::Labels::label))]
     fn prefix(self) -> Result<Operator, WordFault>
         ensures { result ≡ prefix_in self.place self.word }
     {
@@ -27,7 +30,7 @@ impl PlacedWord {
         if label >= 256 {
             return Err(self.ill_formed());
         }
-        if label >= 128 || label == 64 {
+        if label == TICK || !is_label(label) {
             return Err(self.out_of_range());
         }
         Ok(Operator::Prefix(label))
@@ -42,14 +45,9 @@ impl PlacedWord {
         let form = payload / 0x400_0000;
         let between = payload % 0x400_0000 / 0x80_0000;
         let seconds = payload % 0x80_0000;
-        if form == 0 && between != 0 {
-            return Err(self.ill_formed());
-        }
-        if seconds >= 4096 {
-            return Err(self.out_of_range());
-        }
-        // The form is a number here alone, where it becomes a case.
         match form {
+            0 if between != 0 => Err(self.ill_formed()),
+            _ if seconds >= 4096 => Err(self.out_of_range()),
             0 => Ok(Operator::Delay(Delay::Constant(seconds))),
             1 => Ok(Operator::Delay(Delay::Plus { between, seconds })),
             2 if seconds > 0 => Ok(Operator::Delay(Delay::Less { between, seconds })),
