@@ -99,3 +99,19 @@ module _ (m : Meaning) (s : ℕ) where
         | inl l ↦ ap (λ o. ok_or o out_of_range) (slice_get-get_or (m.moves s) k no_move l) ∙ sym (found k h l)
         | inr l ↦ ap (λ o. ok_or o out_of_range) (slice_get_past (m.moves s) k l) ∙ sym (past_moves k l)
       ]
+
+-- two meanings with the same states answer alike where the states' moves are alike
+module _ (m n : Meaning) (same : m.count ≡ n.count) (s : ℕ) where
+  pub same_count : (s < m.count → length (m.moves s) ≡ length (n.moves s)) → move_count m s ≡ move_count n s
+  same_count e =
+      elim (cases_lt s m.count) [
+        | inl h ↦ counted m s h ∙ ap (λ j. Ok j) (e h) ∙ sym (counted n s (omega (arith, same)))
+        | inr h ↦ not_counted m s h ∙ sym (not_counted n s (omega (arith, same)))
+      ]
+
+  pub same_tick : (s < m.count → tick_of (m.moves s) ≡ tick_of (n.moves s)) → tick_target m s ≡ tick_target n s
+  same_tick e =
+      elim (cases_lt s m.count) [
+        | inl h ↦ ticked m s h ∙ ap (λ o. Ok o) (e h) ∙ sym (ticked n s (omega (arith, same)))
+        | inr h ↦ not_ticked m s h ∙ sym (not_ticked n s (omega (arith, same)))
+      ]
