@@ -1,32 +1,25 @@
 -- What a renaming keeps: its tick, and its answers by those of its source.
 use Rattle.std.specs.Prelude.{◌≡◌, ℕ, true, length, Ok, Err}
-use Rattle.std.proofs.Math.Path.{sym, ap}
+use Rattle.std.proofs.Math.Path.{refl, sym, ap}
 use Rattle.std.proofs.Common.{◌∙◌, inl, inr, arith}
-use Rattle.std.proofs.lemmas.Bool.{cases_lt}
 use Rattle.std.proofs.lemmas.List.{length-map, get_or-map}
 use Rattle.lts.specs.declared.source.Move.{Move}
 use Rattle.lts.specs.declared.source.OutOfRange.{OutOfRange}
 use Rattle.lts.specs.Meaning.{Meaning, Laws}
 use Rattle.lts.specs.Answers.{out_of_range, move_count, nth_move, tick_target}
 use Rattle.lts.specs.Relabelling.{renamed, relabel, relabelled}
-use Rattle.lts.proofs.Asked.{counted, not_counted, found, no_state, past_moves, ticked, not_ticked, was_there, was_missing, was_found}
+use Rattle.lts.proofs.Asked.{no_move, found, no_state, past_moves, same_count, same_tick, was_there, was_missing, was_found}
 use Rattle.lts.proofs.Relabelling.{relabelled_tick}
 use Rattle.layers.specs.Names.{is_name}
 use Rattle.layers.specs.Renames.{rename_meaning}
 use Rattle.layers.specs.RenameLaws.{name_range}
-
-abbrev no_move : Move ℕ
-no_move = record { label = 0; target = 0 }
 
 module _ (a b : ℕ) (first : is_name a ≡ true) (second : is_name b ≡ true) (m : Meaning) (laws : Laws m) where
   pub rename_tick : (s : ℕ) → tick_target m s ≡ tick_target (rename_meaning a b m) s
   rename_tick s =
       let p = name_range a first in
       let q = name_range b second in
-      elim (cases_lt s m.count) [
-        | inl h ↦ ticked m s h ∙ ap (λ o. Ok o) (sym (relabelled_tick a b p.0 p.1 q.0 q.1 m.count (m.moves s) (laws.each s h))) ∙ sym (ticked (rename_meaning a b m) s h)
-        | inr h ↦ not_ticked m s h ∙ sym (not_ticked (rename_meaning a b m) s h)
-      ]
+      same_tick m (rename_meaning a b m) refl s (λ h. sym (relabelled_tick a b p.0 p.1 q.0 q.1 m.count (m.moves s) (laws.each s h)))
 
 module _ (a b : ℕ) (m : Meaning) (s : ℕ) where
   as_many : length (relabelled (renamed a b) (m.moves s)) ≡ length (m.moves s)
@@ -34,11 +27,7 @@ module _ (a b : ℕ) (m : Meaning) (s : ℕ) where
   as_many = length-map (m.moves s) (relabel (renamed a b))
 
   pub rename_count : move_count m s ≡ move_count (rename_meaning a b m) s
-  rename_count =
-      elim (cases_lt s m.count) [
-        | inl h ↦ counted m s h ∙ ap (λ j. Ok j) (sym as_many) ∙ sym (counted (rename_meaning a b m) s h)
-        | inr h ↦ not_counted m s h ∙ sym (not_counted (rename_meaning a b m) s h)
-      ]
+  rename_count = same_count m (rename_meaning a b m) refl s (λ h. sym as_many)
 
   pub rename_finds : (k : ℕ) (x : Move ℕ) → Ok x ≡ nth_move m s k → (j : ℕ) → j ≡ renamed a b x.label → Ok (record { label = j; target = x.target }) ≡ nth_move (rename_meaning a b m) s k
   unfolding relabelled

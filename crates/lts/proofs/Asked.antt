@@ -1,5 +1,5 @@
 -- What the questions of a source are answered, in range and out of it.
-use Rattle.std.proofs.Common.{◌≡◌, ℕ, ◌<◌, ◌≤◌, ◌&&◌, ltb, ◌⊎◌, length, get_or, Ok, Err, Option, inl, inr, sym, ap, ◌∙◌}
+use Rattle.std.proofs.Common.{◌≡◌, ℕ, ◌<◌, ◌≤◌, ◌&&◌, ltb, ◌⊎◌, length, get_or, Ok, Err, Option, inl, inr, sym, ap, ◌∙◌, arith}
 use Rattle.std.proofs.lemmas.Option.{slice_get-get_or, slice_get_past}
 use Rattle.std.specs.List.{slice_get}
 use Rattle.std.specs.Option.{ok_or}
@@ -104,4 +104,20 @@ module _ (m : Meaning) (s : ℕ) where
       elim (cases_lt k (length (m.moves s))) [
         | inl l ↦ ap result_ok (found k h l) ∙ sym (slice_get-get_or (m.moves s) k no_move l)
         | inr l ↦ ap result_ok (past_moves k l) ∙ sym (slice_get_past (m.moves s) k l)
+      ]
+
+-- two meanings with the same states answer alike where the states' moves are alike
+module _ (m n : Meaning) (same : m.count ≡ n.count) (s : ℕ) where
+  pub same_count : (s < m.count → length (m.moves s) ≡ length (n.moves s)) → move_count m s ≡ move_count n s
+  same_count e =
+      elim (cases_lt s m.count) [
+        | inl h ↦ counted m s h ∙ ap (λ j. Ok j) (e h) ∙ sym (counted n s (omega (arith, same)))
+        | inr h ↦ not_counted m s h ∙ sym (not_counted n s (omega (arith, same)))
+      ]
+
+  pub same_tick : (s < m.count → tick_of (m.moves s) ≡ tick_of (n.moves s)) → tick_target m s ≡ tick_target n s
+  same_tick e =
+      elim (cases_lt s m.count) [
+        | inl h ↦ ticked m s h ∙ ap (λ o. Ok o) (e h) ∙ sym (ticked n s (omega (arith, same)))
+        | inr h ↦ not_ticked m s h ∙ sym (not_ticked n s (omega (arith, same)))
       ]

@@ -1,4 +1,4 @@
-use Rattle.std.proofs.Common.{ap, sym, ◌∙◌, arith, rules, tests}
+use Rattle.std.proofs.Common.{ap, sym, arith, rules, tests}
 use Rattle.std.specs.Prelude.{drop}
 use Rattle.std.proofs.lemmas.Iterator.Consumers.{nth_from_yields_List, YieldsList-from_filter, YieldsList-from_first, YieldsList-at}
 use Rattle.std.proofs.lemmas.Result.{err_from_is_err_and}
