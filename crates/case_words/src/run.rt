@@ -49,6 +49,7 @@ impl Run {
     pub fn append_to(self, bytes: &mut Vec<u8>) -> Result<(), AllocError>
         ensures { OnOk result (bytes.new.items ≡ bytes.old.items ++ repeat self.count (to_le_bytes w32 self.word)) }
     {
+        // What `repeat_n(..).flatten()` yields the check does not find alone.
         for _ in 0..self.count {
             bytes.extend_from_slice(&self.word.to_le_bytes())?;
         }
