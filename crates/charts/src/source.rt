@@ -1,7 +1,7 @@
 ghost use Rattle.std.specs.Prelude.{◌≡◌, ◌<◌, ◌≤◌, [], ◌∷◌, length, MatchResult};
 ghost use Rattle.lts.specs.Answers.{tick_of};
 ghost use Rattle.charts.specs.Rows.{total, first as first_of, second_of};
-ghost use Rattle.charts.specs.Meaning.{offer_move, closing_move};
+ghost use Rattle.charts.specs.Meaning.{arrival as arrival_of, offer_move, closing_move};
 ghost use Rattle.charts.specs.Charts.{rows_of, meaning_of};
 ghost use Rattle.charts.specs.Standing.{state_row, closed_by};
 ghost use Rattle.charts.specs.Laws.{chart_lawful};
@@ -63,15 +63,23 @@ impl Chart {
         self.tables.rows[row as usize].first
     }
 
-    // The move to which an offer comes.
+    // The state at which an offer arrives.
     #[tactic(auto, unfolding(crate::specs::Meaning::arrival))]
+    fn arrival(&self, offer: Offer) -> u32
+        requires { offer.row < length (rows_of self.now) }
+        ensures { result ≡ arrival_of (rows_of self.now) offer }
+    {
+        self.first(offer.row)
+    }
+
+    // The move to which an offer comes.
     fn offer_move(&self, offer: Offer) -> Move<u32>
         requires { offer.row < length (rows_of self.now) }
         ensures { result ≡ offer_move (rows_of self.now) offer }
     {
         Move {
             label: offer.label,
-            target: self.first(offer.row),
+            target: self.arrival(offer),
         }
     }
 }
