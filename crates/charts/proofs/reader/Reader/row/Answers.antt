@@ -9,9 +9,6 @@ returns-in_err-row c =
     let p = err_from_is_err_and c.from_residual.result c.from_residual.ensures.1 in
     rw (p.1, p.2) (plain_fails _ _ _ (head_fails _ _ _ c.in_err-row.ensures))
 
-pub loop-init : goal.loop-init
-loop-init c = ([], none_turned offers_repeat c.head.new.self c.in_ok-row.row.offers)
-
 pub returns-in_err-offer : goal.returns-in_err-offer
 returns-in_err-offer c =
     let p = err_from_is_err_and c.from_residual-in_err-offer.result c.from_residual-in_err-offer.ensures.1 in
