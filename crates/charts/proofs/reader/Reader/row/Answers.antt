@@ -1,6 +1,6 @@
-use Rattle.std.proofs.Common.{[], arith}
+use Rattle.std.proofs.Common.{arith}
 use Rattle.std.proofs.lemmas.Result.{err_from_is_err_and}
-use Rattle.charts.proofs.Turns.{offers_repeat, none_turned, turned_more}
+use Rattle.charts.proofs.Turns.{offers_repeat, turned_more}
 use Rattle.charts.proofs.Heads.{plain_whole, plain_fails, head_fails, offer_fails}
 use Rattle.charts.proofs.reader.Reader.row.Goals as goal
 
