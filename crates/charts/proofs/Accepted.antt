@@ -1,5 +1,5 @@
 -- A list of words is taken exactly if it is the words of a chart within the limits.
-use Rattle.std.specs.Prelude.{◌≡◌, ℕ, suc, ◌+◌, ◌≤◌, true, cond, List, [], ◌∷◌, ◌++◌, length, Some, None, Ok, Err, Option, Result, ◌==◌, nat_lt, refl}
+use Rattle.std.specs.Prelude.{◌≡◌, ℕ, suc, ◌+◌, ◌≤◌, true, List, [], ◌∷◌, ◌++◌, length, Some, None, Ok, Err, Option, Result, ◌==◌, nat_lt, refl}
 use Rattle.std.proofs.Common.{sym, ap, ap₂, subst, ◌∙◌, inl, inr, arith}
 use Rattle.std.proofs.lemmas.Bool.{cond-true, cond-false, cases_Bool, ltb-false, eqb-true, le-ltb, eq-eqb}
 use Rattle.std.proofs.lemmas.List.{append-nil, drop_all}
@@ -11,6 +11,7 @@ use Rattle.words.proofs.Exact.{rows_exact as word_rows_exact, rows_back as word_
 use Rattle.charts.specs.Rows.{Row, size, total, rows_fit}
 use Rattle.words.specs.Reading.{then}
 use Rattle.charts.specs.Reading.{read_rows, rows_words, row_words, read_whole, read_chart, overflow, sized, tested, check_chart}
+use Rattle.charts.specs.Reader.{ended}
 use Rattle.charts.specs.Encoding.{rows_encoded, encoded, Encodes, ReadOneWay}
 use Rattle.words.proofs.Results.{then_ok, passed, never_ok, same_ok}
 use Rattle.charts.specs.Limits.{limits, limits_of}
@@ -27,9 +28,9 @@ pub whole_exactly : (ws : List ℕ) (xs : List Row) → read_whole ws ≡ Ok xs 
 unfolding read_whole
 whole_exactly [] xs e = never_ok _ xs e
 whole_exactly (w ∷ ws) xs e =
-    let a = then_ok (rows_in 0 w) (λ n. then (read_rows n 1 n ws) (λ v. cond (rows_words v == length ws) (Ok v) (Err (Length (suc (rows_words v)))))) xs e in
+    let a = then_ok (rows_in 0 w) (λ n. then (read_rows n 1 n ws) (ended ws)) xs e in
     let n = a.0 in
-    let b = then_ok (read_rows n 1 n ws) (λ v. cond (rows_words v == length ws) (Ok v) (Err (Length (suc (rows_words v))))) xs a.1.1 in
+    let b = then_ok (read_rows n 1 n ws) (ended ws) xs a.1.1 in
     let c = passed (rows_words b.0 == length ws) b.0 xs (Length (suc (rows_words b.0))) b.1.1 in
     let x = word_rows_exact 0 w n a.1.0 in
     let r = rows_exactly n 1 n ws b.0 b.1.0 in
@@ -53,8 +54,8 @@ whole_back xs some few h =
     let ws = rows_encoded xs in
     let a = word_rows_back 0 n (some, few) in
     let b = ap (read_rows n 1 n) (sym (append-nil ws)) ∙ rows_back n 1 xs [] few h in
-    ap (λ r. then r (λ n. then (read_rows n 1 n ws) (λ v. cond (rows_words v == length ws) (Ok v) (Err (Length (suc (rows_words v))))))) a
-    ∙ ap (λ r. then r (λ v. cond (rows_words v == length ws) (Ok v) (Err (Length (suc (rows_words v)))))) b
+    ap (λ r. then r (λ n. then (read_rows n 1 n ws) (ended ws))) a
+    ∙ ap (λ r. then r (ended ws)) b
     ∙ cond-true (rows_words xs == length ws) (Ok xs) (Err (Length (suc (rows_words xs)))) (eq-eqb (rows_words xs) (length ws) (sym (rows_length xs)))
 
 -- no row passes the limit exactly if the states are within it

@@ -25,14 +25,11 @@ use Rattle.charts.proofs.Exact.{row_of_parts, offer_back, timeout_back}
 
 -- a word that is refused is refused at its place
 
-same_fault : {A : Type 0} (e f : WordFault) → ◌≡◌ {A = Result A WordFault} (Err e) (Err f) → e ≡ f
-same_fault e f q = cc
-
 form_bad : {A : Type 0} (p : ℕ) (f : WordFault) → ◌≡◌ {A = Result A WordFault} (Err (Form p)) (Err f) → Bad f p
-form_bad p f e = subst (λ (g : WordFault). Bad g p) (same_fault (Form p) f e) refl
+form_bad p f e = let q : Form p ≡ f = cc in subst (λ (g : WordFault). Bad g p) q refl
 
 range_bad : {A : Type 0} (p : ℕ) (f : WordFault) → ◌≡◌ {A = Result A WordFault} (Err (Range p)) (Err f) → Bad f p
-range_bad p f e = subst (λ (g : WordFault). Bad g p) (same_fault (Range p) f e) refl
+range_bad p f e = let q : Range p ≡ f = cc in subst (λ (g : WordFault). Bad g p) q refl
 
 check_bad : {A : Type 0} (b : Bool) (g f : WordFault) (p : ℕ) (r : Result A WordFault) → (◌≡◌ {A = Result A WordFault} (Err g) (Err f) → Bad f p) → (r ≡ Err f → Bad f p) → check b g r ≡ Err f → Bad f p
 check_bad true g f p r h k e = k e
@@ -43,7 +40,7 @@ ok_bad a f p e = never_err f a e
 
 then_bad : {A B : Type 0} (r : Result A WordFault) (k : A → Result B WordFault) (f : WordFault) (p : ℕ) → (r ≡ Err f → Bad f p) → ((a : A) → k a ≡ Err f → Bad f p) → then r k ≡ Err f → Bad f p
 then_bad (Ok a) k f p h g e = g a e
-then_bad (Err d) k f p h g e = h (ap (λ z. Err z) (same_fault d f e))
+then_bad (Err d) k f p h g e = h (cc)
 
 cond_bad : {A : Type 0} (b : Bool) (x y : Result A WordFault) (f : WordFault) (p : ℕ) → (x ≡ Err f → Bad f p) → (y ≡ Err f → Bad f p) → cond b x y ≡ Err f → Bad f p
 cond_bad true x y f p h k e = h e
@@ -73,18 +70,18 @@ offer_bad n p w f = then_bad (arrow_in p w) _ f p (arrow_bad p w f) (λ m. cond_
 
 check_err : {A : Type 0} (b : Bool) (g f : WordFault) (r : Result A WordFault) → check b g r ≡ Err f → ((b ≡ false) × (g ≡ f)) ⊎ ((b ≡ true) × (r ≡ Err f))
 check_err true g f r e = inr (refl, e)
-check_err false g f r e = inl (refl, same_fault g f e)
+check_err false g f r e = inl (refl, cc)
 
 form_range : {X : Type 0} (p q : ℕ) → Form p ≡ Range q → X
-form_range p q e = absurd (let z : ◌≡◌ {A = ℕ} 0 1 = cc in omega arith)
+form_range p q e = absurd (cc)
 
 then_err : {A B X : Type 0} (r : Result A WordFault) (k : A → Result B WordFault) (f : WordFault) → then r k ≡ Err f → (r ≡ Err f → X) → ((a : A) → r ≡ Ok a → k a ≡ Err f → X) → X
 then_err (Ok a) k f e h g = g a refl e
-then_err (Err d) k f e h g = h (ap (λ z. Err z) (same_fault d f e))
+then_err (Err d) k f e h g = h (cc)
 
 cond_err : {A X : Type 0} (b : Bool) (a : A) (g f : WordFault) → cond b (Ok a) (Err g) ≡ Err f → (g ≡ f → X) → X
 cond_err true a g f e k = never_err f a e
-cond_err false a g f e k = k (same_fault g f e)
+cond_err false a g f e k = k (cc)
 
 counted_form : (due least most p w q : ℕ) → counted due least most p w ≡ Err (Form q) → kind w ≡ due → ⊥
 counted_form due least most p w q e k =

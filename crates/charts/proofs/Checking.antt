@@ -3,7 +3,7 @@ use Rattle.std.proofs.Common.{◌≡◌, ℕ, suc, ◌+◌, ◌<◌, ◌≤◌, 
 use Rattle.std.specs.List.{sum_by}
 use Rattle.std.proofs.lemmas.Bool.{cond-true, cond-false, lt-ltb, le-ltb, eq-eqb, ne_eqb}
 use Rattle.std.proofs.lemmas.List.{length-drop}
-use Rattle.std.proofs.lemmas.List.Sums.{sum_by-cons}
+use Rattle.std.proofs.lemmas.List.Recursion.{is_sum_by}
 use Rattle.words.specs.declared.fault.WordFault.{WordFault}
 use Rattle.words.specs.declared.fault.WordFault.TheVariants.{Length}
 use Rattle.words.specs.Words.{rows_in}
@@ -88,10 +88,9 @@ pub none_summed : Ok 0 ≡ Summed []
 unfolding overflow total
 none_summed = refl
 
-words_by : (xs : List Row) → sum_by row_words xs ≡ rows_words xs
+words_by : (xs : List Row) → rows_words xs ≡ sum_by row_words xs
 unfolding rows_words
-words_by [] = refl
-words_by (x ∷ xs) = sum_by-cons row_words x xs ∙ ap (λ j. row_words x + j) (words_by xs)
+words_by xs = is_sum_by rows_words row_words refl (λ _ _. refl) xs
 
 module _ (r s : Reader) (i : ℕ) (xs : List Row) (h : Turned row_words read_rows r s r.rows i xs) (first : r.cursor.place ≡ 1) where
   place_is : s.cursor.place ≡ 1 + rows_words xs

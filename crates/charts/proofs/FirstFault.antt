@@ -1,5 +1,5 @@
 -- A refusal names the first word at fault, or the row that passes the limit of states.
-use Rattle.std.proofs.Common.{◌≡◌, ℕ, suc, ◌+◌, ◌<◌, ◌≤◌, true, false, cond, eqb, ltb, ◌⊎◌, List, [], ◌∷◌, ◌++◌, length, get_or, take, drop, Some, None, Ok, Err, Option, Result, sym, refl, ap, ◌∙◌, subst, ap₂, inl, inr, add-zero, one-add, arith, take-add}
+use Rattle.std.proofs.Common.{◌≡◌, ℕ, suc, ◌+◌, ◌<◌, ◌≤◌, true, false, eqb, ltb, ◌⊎◌, List, [], ◌∷◌, ◌++◌, length, get_or, take, drop, Some, None, Ok, Err, Option, Result, sym, refl, ap, ◌∙◌, subst, ap₂, inl, inr, add-zero, one-add, arith, take-add}
 use Rattle.std.proofs.lemmas.Bool.{cond-true, cond-false, cases_Bool, ltb-true, ltb-false, eqb-false}
 use Rattle.std.proofs.lemmas.List.{append-nil, append_assoc, length-append, take_at, take_all, take-append-drop, length-take-le}
 use Rattle.words.specs.declared.fault.WordFault.{WordFault}
@@ -16,6 +16,7 @@ use Rattle.charts.specs.declared.fault.ChartFault.{ChartFault}
 use Rattle.charts.specs.declared.fault.ChartFault.TheVariants.{Word, TooManyStates}
 use Rattle.charts.specs.Rows.{Row, size, total, rows_fit, in_layout}
 use Rattle.charts.specs.Reading.{read_rows, row_words, rows_words, read_whole, read_chart, overflow, sized, tested, check_chart}
+use Rattle.charts.specs.Reader.{ended}
 use Rattle.charts.specs.Encoding.{rows_encoded, encoded}
 use Rattle.charts.specs.Refusals.{BeginsChart, IsChart, FirstFault, WordAtFault, KindIsDue, RefusedFor}
 use Rattle.charts.proofs.Exact.{RowsAreRead, rows_exactly, rows_length, rows_back}
@@ -159,21 +160,18 @@ unfolding read_whole
 whole_err [] f e = inl e
 whole_err (w ∷ ws) f e = by (rows_in 0 w) e
   where
-    same_fault : (d g : WordFault) → ◌≡◌ {A = Result (List Row) WordFault} (Err d) (Err g) → d ≡ g
-    same_fault d g q = cc
-
-    ended : (n : ℕ) (r : Result (List Row) WordFault) → then r (λ v. cond (eqb (rows_words v) (length ws)) (Ok v) (Err (Length (suc (rows_words v))))) ≡ Err f
+    end_err : (n : ℕ) (r : Result (List Row) WordFault) → then r (ended ws) ≡ Err f
         → (mapped (λ v. v) r ≡ Err f) ⊎ ((xs : List Row) × (mapped (λ v. v) r ≡ Ok xs) × (suc (rows_words xs) ≡ suc (length ws) → ⊥) × (f ≡ Length (suc (rows_words xs))))
-    ended n (Err d) e = inl e
-    ended n (Ok xs) e =
+    end_err n (Err d) e = inl e
+    end_err n (Ok xs) e =
         elim (cases_Bool (eqb (rows_words xs) (length ws))) [
           | inl q ↦ never_err f xs (sym (cond-true (eqb (rows_words xs) (length ws)) (Ok xs) (Err (Length (suc (rows_words xs)))) q) ∙ e)
-          | inr q ↦ inr (xs, refl, (λ z. eqb-false (rows_words xs) (length ws) q (omega arith)), sym (same_fault _ f (sym (cond-false (eqb (rows_words xs) (length ws)) (Ok xs) (Err (Length (suc (rows_words xs)))) q) ∙ e)))
+          | inr q ↦ inr (xs, refl, (λ z. eqb-false (rows_words xs) (length ws) q (omega arith)), (let g = sym (cond-false (eqb (rows_words xs) (length ws)) (Ok xs) (Err (Length (suc (rows_words xs)))) q) ∙ e in cc))
         ]
 
-    by : (r : Result ℕ WordFault) → then r (λ n. then (read_rows n 1 n ws) (λ v. cond (eqb (rows_words v) (length ws)) (Ok v) (Err (Length (suc (rows_words v)))))) ≡ Err f
+    by : (r : Result ℕ WordFault) → then r (λ n. then (read_rows n 1 n ws) (ended ws)) ≡ Err f
         → (then r (λ n. mapped (λ v. v) (read_rows n 1 n ws)) ≡ Err f) ⊎ ((xs : List Row) × (then r (λ n. mapped (λ v. v) (read_rows n 1 n ws)) ≡ Ok xs) × (suc (rows_words xs) ≡ suc (length ws) → ⊥) × (f ≡ Length (suc (rows_words xs))))
-    by (Ok n) e = ended n (read_rows n 1 n ws) e
+    by (Ok n) e = end_err n (read_rows n 1 n ws) e
     by (Err d) e = inl e
 
 whole_refuses : (ws : List ℕ) (f : WordFault) → length ws ≤ longest → read_whole ws ≡ Err f → RefusedFor ws (Word f)
@@ -205,24 +203,19 @@ record Passed (s p : ℕ) (xs : List Row) (q : ℕ) : Type 0 where
 
 passed : (s p : ℕ) (xs : List Row) (q : ℕ) → s ≤ 4096 → overflow s p xs ≡ Some q → Passed s p xs q
 unfolding overflow total rows_words
-passed s p [] q h e = absurd (let z : ◌≡◌ {A = ℕ} 0 1 = cc in omega arith)
+passed s p [] q h e = absurd (cc)
 passed s p (x ∷ xs) q h e =
     elim (cases_Bool (ltb 4096 (s + size x))) [
-      | inl b ↦ (let same = some_same p q (sym (cond-true (ltb 4096 (s + size x)) (Some p) (overflow (s + size x) (p + row_words x) xs) b) ∙ e) in
-          record { r = 0; inside = omega arith; before = omega arith; there = omega (arith, ltb-true 4096 (s + size x) b); place = sym same ∙ sym (add-zero p) })
+      | inl b ↦ (let same : Some p ≡ Some q = sym (cond-true (ltb 4096 (s + size x)) (Some p) (overflow (s + size x) (p + row_words x) xs) b) ∙ e in
+          let at : q ≡ p = cc in
+          record { r = 0; inside = omega arith; before = omega arith; there = omega (arith, ltb-true 4096 (s + size x) b); place = at ∙ sym (add-zero p) })
       | inr b ↦ (let rest = passed (s + size x) (p + row_words x) xs q (ltb-false 4096 (s + size x) b) (sym (cond-false (ltb 4096 (s + size x)) (Some p) (overflow (s + size x) (p + row_words x) xs) b) ∙ e) in
           record { r = suc rest.r; inside = omega (arith, rest.inside); before = omega (arith, rest.before); there = omega (arith, rest.there); place = rest.place ∙ (omega arith) })
     ]
-  where
-    some_same : (a b : ℕ) → ◌≡◌ {A = Option ℕ} (Some a) (Some b) → a ≡ b
-    some_same a b e = cc
 
 sized_err : (xs : List Row) (o : Option ℕ) (g : ChartFault) → sized xs o ≡ Err g → (q : ℕ) × ((o ≡ Some q) × (g ≡ TooManyStates q))
 sized_err xs None g e = never_err g xs e
-sized_err xs (Some q) g e = (q, (refl, same g q e))
-  where
-    same : (g : ChartFault) (q : ℕ) → ◌≡◌ {A = Result (List Row) ChartFault} (Err (TooManyStates q)) (Err g) → g ≡ TooManyStates q
-    same g q e = cc
+sized_err xs (Some q) g e = (q, (refl, cc))
 
 limit_refuses : (ws : List ℕ) (xs : List Row) (q : ℕ) → length ws ≤ longest → Whole ws xs → overflow 0 1 xs ≡ Some q → RefusedFor ws (TooManyStates q)
 limit_refuses ws xs q l w e =
@@ -246,16 +239,14 @@ unfolding check_chart read_chart
 refused_for ws g e =
     elim (cases_Bool (ltb longest (length ws))) [
       | inl b ↦ (let long = ltb-true longest (length ws) b in
-          let q = same g (Word (Length longest)) (sym (ap tested (cond-true (ltb longest (length ws)) (Err (Length longest)) (read_whole ws) b)) ∙ e) in
+          let r = sym (ap tested (cond-true (ltb longest (length ws)) (Err (Length longest)) (read_whole ws) b)) ∙ e in
+          let q : Word (Length longest) ≡ g = cc in
           subst (λ (z : ChartFault). RefusedFor ws z) q (inl (long, refl)))
       | inr b ↦ by (read_whole ws) refl (sym (ap tested (cond-false (ltb longest (length ws)) (Err (Length longest)) (read_whole ws) b)) ∙ e) (ltb-false longest (length ws) b)
     ]
   where
-    same : (g h : ChartFault) → ◌≡◌ {A = Result (List Row) ChartFault} (Err h) (Err g) → h ≡ g
-    same g h e = cc
-
     by : (r : Result (List Row) WordFault) → read_whole ws ≡ r → tested r ≡ Err g → length ws ≤ longest → RefusedFor ws g
     by (Ok xs) q e l =
         let s = sized_err xs (overflow 0 1 xs) g e in
         subst (λ (z : ChartFault). RefusedFor ws z) (sym s.1.1) (limit_refuses ws xs s.0 l (whole_exactly ws xs q) s.1.0)
-    by (Err f) q e l = subst (λ (z : ChartFault). RefusedFor ws z) (same g (Word f) e) (whole_refuses ws f l q)
+    by (Err f) q e l = let s : Word f ≡ g = cc in subst (λ (z : ChartFault). RefusedFor ws z) s (whole_refuses ws f l q)

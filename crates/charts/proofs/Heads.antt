@@ -1,7 +1,7 @@
 -- A row, read as its head and then its offers.
-use Rattle.std.proofs.Common.{◌≡◌, ℕ, ◌+◌, ◌<◌, List, [], ◌∷◌, length, drop, Ok, Err, Result, sym, refl, ap, ◌∙◌, subst, add_assoc, arith}
+use Rattle.std.proofs.Common.{◌≡◌, ℕ, ◌+◌, ◌<◌, List, length, drop, Ok, Err, Result, sym, refl, ap, ◌∙◌, subst, add_assoc, arith}
 use Rattle.std.specs.List.{sum_by}
-use Rattle.std.proofs.lemmas.List.Sums.{sum_by-cons}
+use Rattle.std.proofs.lemmas.List.Recursion.{is_sum_by}
 use Rattle.words.specs.declared.fault.WordFault.{WordFault}
 use Rattle.words.specs.Reading.{then, mapped}
 use Rattle.words.proofs.Results.{mapped_ok, mapped_err}
@@ -33,9 +33,8 @@ pub row_by_head : (n p : ℕ) (ws : List ℕ) → read_row n p ws ≡ then (read
 unfolding read_row
 row_by_head n p ws = by_stay n p ws (read_stay n p ws)
 
-ones : (os : List Offer) → sum_by one os ≡ length os
-ones [] = refl
-ones (o ∷ os) = sum_by-cons one o os ∙ (let e = ones os in omega arith)
+ones : (os : List Offer) → length os ≡ sum_by one os
+ones os = is_sum_by length one refl (λ _ _. omega arith) os
 
 pub head_fails : (r s : Reader) (f : WordFault) → Reads read_head_of head_words r s (Err f) → next_row r ≡ Err f
 head_fails r s f h = row_by_head r.rows r.cursor.place r.cursor.rest.now ∙ ap (λ z. then z (rest_of r.rows r.cursor.place r.cursor.rest.now)) (sym h.read)
@@ -62,7 +61,7 @@ module _ (r s : Reader) (h : RowRead) (head : Reads read_head_of head_words r s 
     pub row_whole : i ≡ h.offers → (next_row r ≡ Ok (row_of_parts h.stay os)) × Behind r t (row_words (row_of_parts h.stay os))
     row_whole e =
         let a = behind_more r s t (head_words h) (sum_by one os) head.behind turns.behind in
-        (behind_head ∙ ap (mapped (row_of_parts h.stay)) (all_turned offers_repeat s h.offers t i os turns e), subst (λ j. Behind r t j) (ap (λ j. head_words h + j) (ones os)) a)
+        (behind_head ∙ ap (mapped (row_of_parts h.stay)) (all_turned offers_repeat s h.offers t i os turns e), subst (λ j. Behind r t j) (ap (λ j. head_words h + j) (sym (ones os))) a)
 
 -- the same by plain numbers, as the code has it
 pub plain_fails : (r s : Reader) (f : WordFault) → next_row r ≡ Err f → Reads read_plain read_words r s (Err f)

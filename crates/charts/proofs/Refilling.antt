@@ -1,6 +1,9 @@
 -- What was checked is there to be filled in.
 use Rattle.std.proofs.Common.{◌≡◌, ℕ, ◌+◌, ◌<◌, ◌≤◌, true, eqb, List, [], ◌∷◌, ◌++◌, length, is_ok, IfOk, Ok, Err, Result, vec_len, sym, refl, ap, ◌∙◌, subst, arith}
 use Rattle.std.proofs.lemmas.Bool.{false≢true}
+use Rattle.std.specs.List.{sum_by}
+use Rattle.std.proofs.lemmas.List.Recursion.{is_sum_by}
+use Rattle.std.proofs.lemmas.List.Sums.{sum_by-append, sum_by-cons}
 use Rattle.words.specs.declared.fault.WordFault.{WordFault}
 use Rattle.words.specs.declared.fault.WordFault.TheVariants.{Length}
 use Rattle.words.proofs.Results.{then_ok, passed}
@@ -47,14 +50,14 @@ known ws r ok b =
       small = omega arith;
     }
 
-total_append : (xs ys : List Row) → total (xs ++ ys) ≡ total xs + total ys
+total_by : (xs : List Row) → total xs ≡ sum_by size xs
 unfolding total
-total_append [] ys = let e : total ys ≡ 0 + total ys = omega arith in e
-total_append (x ∷ xs) ys = let e = total_append xs ys in omega arith
+total_by xs = is_sum_by total size refl (λ _ _. refl) xs
 
-total_of : (x : Row) (xs : List Row) → total (x ∷ xs) ≡ size x + total xs
-unfolding total
-total_of x xs = refl
+total_with : (xs ys : List Row) (x : Row) → total (xs ++ (x ∷ ys)) ≡ total xs + (size x + total ys)
+total_with xs ys x =
+    let a = total_by xs in let b = total_by ys in
+    total_by (xs ++ (x ∷ ys)) ∙ sum_by-append size xs (x ∷ ys) ∙ (let c = sum_by-cons size x ys in omega arith)
 
 -- the next row, which the tables have room for
 module _ (ws : List ℕ) (r s : Reader) (k : Known ws r) (i : ℕ) (xs : List Row) (h : Turned row_words read_rows r s r.rows i xs) (t : Tables) (here : Held t xs) where
@@ -69,8 +72,7 @@ module _ (ws : List ℕ) (r s : Reader) (k : Known ws r) (i : ℕ) (xs : List Ro
       let a = turn_reads rows_repeat r r.rows s i xs h l k.rows k.read in
       let n = rows_held t xs here in
       let m = states_held t xs here in
-      let e = ap total a.2.1 ∙ total_append xs (a.0 ∷ a.1) in
-      let f = total_of a.0 a.1 in
+      let e = ap total a.2.1 ∙ total_with xs a.1 a.0 in
       let c = h.count in
       let few = r.few in
       let small = k.small in

@@ -49,7 +49,6 @@ impl Tables {
         ensures entries { self.new.rows.items ≡ self.old.rows.items ++ entry_of (vec_len self.old.owners) (vec_len self.old.offers) row ∷ [] }
         ensures owners { self.new.owners.items ≡ self.old.owners.items ++ replicate (stay_states row.stay) (vec_len self.old.rows) }
         ensures offers { self.new.offers ≡ self.old.offers }
-        ensures counts { (vec_len self.new.rows ≡ vec_len self.old.rows + 1) × (vec_len self.new.owners ≡ vec_len self.old.owners + stay_states row.stay) }
     {
         let number = self.rows.len() as u32;
         let first = self.owners.len();

@@ -17,6 +17,7 @@ pub struct Offer {
 }
 
 // The whole seconds of a dwell: the rest of a second is dropped.
+#[tactic(auto, unfolding(crate::specs::Rows::seconds))]
 pub(crate) fn seconds(tenths: u32) -> u32
     ensures value { result ≡ whole_seconds tenths }
     ensures bound { result < 2 ^ 31 }

@@ -1,6 +1,6 @@
-use Rattle.std.proofs.Common.{[], arith}
+use Rattle.std.proofs.Common.{arith}
 use Rattle.std.proofs.lemmas.Result.{err_from_is_err_and}
-use Rattle.charts.proofs.Turns.{offers_repeat, none_turned, turned_more}
+use Rattle.charts.proofs.Turns.{offers_repeat, turned_more}
 use Rattle.charts.proofs.Heads.{plain_whole, plain_fails, head_fails, offer_fails}
 use Rattle.charts.proofs.reader.Reader.row.Goals as goal
 
@@ -8,9 +8,6 @@ pub returns-in_err-row : goal.returns-in_err-row
 returns-in_err-row c =
     let p = err_from_is_err_and c.from_residual.result c.from_residual.ensures.1 in
     rw (p.1, p.2) (plain_fails _ _ _ (head_fails _ _ _ c.in_err-row.ensures))
-
-pub loop-init : goal.loop-init
-loop-init c = ([], none_turned offers_repeat c.head.new.self c.in_ok-row.row.offers)
 
 pub returns-in_err-offer : goal.returns-in_err-offer
 returns-in_err-offer c =

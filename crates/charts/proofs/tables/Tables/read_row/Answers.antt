@@ -37,9 +37,6 @@ unreachable-requires-in_default-offer c =
     never_fails (next_row c.args.reader.now) _ c.requires.known
     (offer_fails c.args.reader.now c.head.new.self c.in-Ok.row c.in-Ok.ensures _ _ _ c.loop.invariant.turned _ _ c.loop-test.true c.in_default-offer.ensures)
 
-pub push_reserved-requires : goal.push_reserved-requires
-push_reserved-requires c = let b = c.in-Ok-offer.ensures.behind.inside in omega arith
-
 pub loop-preserved : goal.loop-preserved
 loop-preserved c =
     let i = c.loop.invariant in
