@@ -8,7 +8,8 @@ use Rattle.lts.specs.declared.source.OutOfRange.{OutOfRange}
 use Rattle.lts.specs.Meaning.{Meaning, Laws}
 use Rattle.lts.specs.Answers.{out_of_range, move_count, nth_move, tick_target}
 use Rattle.lts.specs.Relabelling.{renamed, relabel, relabelled}
-use Rattle.lts.proofs.Asked.{no_move, found, no_state, past_moves, same_count, same_tick, was_there, was_missing, was_found}
+use Rattle.lts.specs.Meaning.{no_move}
+use Rattle.lts.proofs.Asked.{found, no_state, past_moves, same_count, same_tick, was_there, was_missing, was_found}
 use Rattle.lts.proofs.Relabelling.{relabelled_tick}
 use Rattle.layers.specs.Names.{is_name}
 use Rattle.layers.specs.Renames.{rename_meaning}
