@@ -13,6 +13,7 @@ pub enum ChartFault {
     TooManyStates(usize),
 }
 
+// By hand, since a derived conversion has no clause and `?` would then say nothing.
 impl From<WordFault> for ChartFault {
     ghost from_gives = { λ w f. f ≡ Word w };
 

@@ -3,6 +3,8 @@ ghost use Rattle.charts.specs.Rows.{seconds as whole_seconds, last_second, stay_
 
 // How long a row is stayed in. A finite row is left by itself when its dwell,
 // in tenths of a second, is over, to the timeout row; an endless row never is.
+// No Option of a dwell, which would say by `None` that a row is endless, and would
+// have no methods of its own.
 #[derive(Clone, Copy, PartialEq, Debug)]
 pub enum Stay {
     Finite { tenths: u32, timeout: u32 },

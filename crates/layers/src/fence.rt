@@ -34,6 +34,8 @@ impl<S: Source> Source for Fence<S> {
         self.source.states()
     }
 
+    // What is kept is said in both questions, since its type has the closure's and so no
+    // name that a function could return it by.
     fn move_count(&self, s: u32) -> Result<u32, OutOfRange> {
         let state = State::of(&self.source, s)?;
         let kept = state.moves().filter(|step| !self.names.holds(step.label));
