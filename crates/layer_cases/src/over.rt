@@ -6,49 +6,38 @@ use charts::Chart;
 use layers::{Fence, Pair, Rename};
 use listing::{refusal_text, source_text};
 use lts::{Refusal, Source};
-use std::str::FromStr;
 use words::WordFile;
 
-// A layer over the first chart of a line, or over both.
+// A layer over the first chart of a line, or over both, by the numbers of the line.
 #[derive(Clone, Copy)]
 enum Layer {
     // A fence by the names whose bits these are.
     Fence(u64),
-    Rename { from: u32, to: u32 },
+    Rename { from: u64, to: u64 },
     Pair,
     // A fence over the Pair of the first chart, renamed, and the second.
-    Pile { bits: u64, from: u32, to: u32 },
+    Pile { bits: u64, from: u64, to: u64 },
+}
+
+impl Layer {
+    fn new(kind: &str, [a, b, c]: [u64; 3]) -> anyhow::Result<Layer> {
+        match kind {
+            "fence" => Ok(Layer::Fence(a)),
+            "rename" => Ok(Layer::Rename { from: a, to: b }),
+            "pair" => Ok(Layer::Pair),
+            "pile" => Ok(Layer::Pile {
+                bits: a,
+                from: b,
+                to: c,
+            }),
+            _ => Err(anyhow!("no such layer")),
+        }
+    }
 }
 
 // A number of a layer, 0 where there is none.
 fn number(token: Option<&str>) -> anyhow::Result<u64> {
     Ok(token.unwrap_or("0").parse()?)
-}
-
-impl FromStr for Layer {
-    type Err = anyhow::Error;
-
-    fn from_str(text: &str) -> anyhow::Result<Layer> {
-        let mut tokens = text.split_whitespace();
-        let kind = tokens.next().unwrap_or("");
-        let a = number(tokens.next())?;
-        let b = number(tokens.next())?;
-        let c = number(tokens.next())?;
-        match kind {
-            "fence" => Ok(Layer::Fence(a)),
-            "rename" => Ok(Layer::Rename {
-                from: a.try_into()?,
-                to: b.try_into()?,
-            }),
-            "pair" => Ok(Layer::Pair),
-            "pile" => Ok(Layer::Pile {
-                bits: a,
-                from: b.try_into()?,
-                to: c.try_into()?,
-            }),
-            _ => Err(anyhow!("no such layer")),
-        }
-    }
 }
 
 // The chart with the words of these tokens.
@@ -75,17 +64,25 @@ fn shown<S: Source + Drop, F: Refusal>(
 
 // The listing of the layer, or its refusal.
 fn listing(rt: &HostRuntime, layer: &str, charts: &str) -> anyhow::Result<String> {
-    let layer = layer.parse::<Layer>()?;
+    let mut tokens = layer.split_whitespace();
+    let kind = tokens.next().unwrap_or("");
+    let numbers = [
+        number(tokens.next())?,
+        number(tokens.next())?,
+        number(tokens.next())?,
+    ];
     let (first, second) = charts.split_once('|').unwrap_or((charts, ""));
     let first = chart(rt, first)?;
-    match layer {
+    match Layer::new(kind, numbers)? {
         Layer::Fence(bits) => shown(rt, Fence::new(first, bits)),
-        Layer::Rename { from, to } => shown(rt, Rename::new(first, from, to)),
+        Layer::Rename { from, to } => {
+            shown(rt, Rename::new(first, from.try_into()?, to.try_into()?))
+        }
         Layer::Pair => shown(rt, Pair::new(first, chart(rt, second)?)),
         Layer::Pile { bits, from, to } => {
             let second = chart(rt, second)?;
             // The refusals are of three types; `?` would need one more, to join them.
-            match Rename::new(first, from, to) {
+            match Rename::new(first, from.try_into()?, to.try_into()?) {
                 Ok(renamed) => match Pair::new(renamed, second) {
                     Ok(pair) => shown(rt, Fence::new(pair, bits)),
                     Err(fault) => Ok(refusal_text(rt.alloc(), fault)?),
