@@ -9,12 +9,12 @@ use Rattle.words.specs.declared.fault.WordFault.{WordFault}
 use Rattle.words.specs.declared.fault.WordFault.TheVariants.{Length, Form, Range}
 use Rattle.words.specs.declared.word.RowHead.{RowHead}
 use Rattle.words.specs.declared.word.RowHead.TheVariants.{Dwell, Endless as EndlessHead}
-use Rattle.words.specs.Reading.{then, mapped}
+use Rattle.words.specs.Reading.{then, mapped, one_word}
 use Rattle.words.specs.Words.{kind, payload, unused_bit, check, counted, most_tenths, arrow_in, row_in, offers_in, rows_in}
 use Rattle.words.specs.Encoded.{RowFits, arrow_word, row_word, count_word}
 use Rattle.words.proofs.Exact.{arrow_exact, arrow_kind, row_exact, row_back, offers_exact as word_offers_exact, offers_back as word_offers_back, rows_exact as word_rows_exact, rows_back as word_rows_back}
 use Rattle.words.proofs.Results.{never_ok, then_by}
-use Rattle.words.proofs.Readers.{Reader, Bad, Why, Good, one_word, word_good, nothing, named_good, both_good, same_good, never_err}
+use Rattle.words.proofs.Readers.{Reader, Bad, Why, Good, word_good, nothing, named_good, both_good, same_good, never_err}
 use Rattle.charts.specs.declared.row.Stay.{Stay}
 use Rattle.charts.specs.declared.row.Stay.TheVariants.{Finite, Endless}
 use Rattle.charts.specs.declared.row.Offer.{Offer}

@@ -1,9 +1,9 @@
 -- Inside the reader: what one of its steps reads, and where it stands then.
-use Rattle.std.specs.Prelude.{◌≡◌, ℕ, suc, ◌+◌, ◌≤◌, cond, List, [], ◌∷◌, length, drop, IfOk, Ok, Err, Result, ◌==◌, nat_lt}
+use Rattle.std.specs.Prelude.{◌≡◌, ℕ, suc, ◌+◌, ◌≤◌, cond, List, length, drop, IfOk, Ok, Err, Result, ◌==◌, nat_lt}
 use Rattle.lts.specs.Meaning.{most_states}
 use Rattle.words.specs.declared.fault.WordFault.{WordFault}
 use Rattle.words.specs.declared.fault.WordFault.TheVariants.{Length}
-use Rattle.words.specs.Reading.{then, mapped}
+use Rattle.words.specs.Reading.{then, mapped, one_word}
 use Rattle.charts.specs.declared.fault.ChartFault.{ChartFault}
 use Rattle.charts.specs.declared.fault.ChartFault.TheVariants.{TooManyStates}
 use Rattle.charts.specs.declared.row.Offer.{Offer}
@@ -28,15 +28,11 @@ pub record Reads {A : Type 0} (P : ℕ → ℕ → List ℕ → Result A WordFau
 abbrev pub one : {A : Type 0} → A → ℕ
 one a = 1
 
-abbrev pub read_word : {A : Type 0} → (ℕ → ℕ → Result A WordFault) → ℕ → List ℕ → Result A WordFault
-read_word W p [] = Err (Length p)
-read_word W p (w ∷ ws) = W p w
-
 abbrev pub read_target : ℕ → ℕ → List ℕ → Result ℕ WordFault
-read_target n = read_word (timeout_in n)
+read_target n = one_word (timeout_in n)
 
 abbrev pub read_offer : ℕ → ℕ → List ℕ → Result Offer WordFault
-read_offer n = read_word (offer_in n)
+read_offer n = one_word (offer_in n)
 
 -- a row by its plain numbers
 abbrev pub row_read : Row → RowRead

@@ -9,7 +9,7 @@ use Rattle.words.specs.declared.fault.WordFault.{WordFault}
 use Rattle.words.specs.declared.fault.WordFault.TheVariants.{Length, Form, Range}
 use Rattle.words.specs.Faults.{fault_place}
 use Rattle.words.specs.Words.{kind, unused_bit}
-use Rattle.words.specs.Reading.{then, mapped}
+use Rattle.words.specs.Reading.{then, mapped, one_word}
 use Rattle.words.proofs.Results.{never_ok, same_ok, then_by, mapped_by, mapped_err}
 
 -- from the place of the first word, and the words, to what was read, or a fault
@@ -70,11 +70,6 @@ nothing used a z = record {
   local = λ p ws b e v. e;
   faults = λ p ws f e. never_err f a e;
 }
-
--- one word
-abbrev pub one_word : {A : Type 0} → (ℕ → ℕ → Result A WordFault) → ℕ → List ℕ → Result A WordFault
-one_word W p [] = Err (Length p)
-one_word W p (w ∷ ws) = W p w
 
 -- a fault of the word at p
 abbrev pub Bad : WordFault → ℕ → Type 0
