@@ -58,7 +58,7 @@ impl PlacedWord {
     pub(crate) fn kind(self) -> Kind
         ensures { number result ≡ kind_of self.word }
     {
-        Kind::of(self.word)
+        Kind::from(self.word)
     }
 
     // All of the word but its kind.
@@ -90,7 +90,7 @@ impl PlacedWord {
             return Err(self.ill_formed());
         }
         let payload = self.payload();
-        if payload < least || payload > most {
+        if !(least..=most).contains(&payload) {
             return Err(self.out_of_range());
         }
         Ok(payload)
