@@ -32,7 +32,7 @@ impl Tables {
         ensures { IfOk (check_chart words.now) (Held self.new) }
     {
         let Ok(mut reader) = Reader::new(words) else {
-            unreachable();
+            unreachable!();
         };
         self.rows.clear();
         self.offers.clear();
@@ -60,9 +60,7 @@ impl Tables {
             offers: row.offers,
         });
         let states = first + row.stay.states() as usize;
-        let Ok(()) = self.owners.resize(states, number) else {
-            unreachable();
-        };
+        self.owners.resize(states, number).unwrap();
     }
 
     // Adds the row at which the reader stands, which was read before.
@@ -75,12 +73,12 @@ impl Tables {
         ensures offers { vec_len self.new.offers ≤ reader.new.cursor.place }
     {
         let Ok(row) = reader.head() else {
-            unreachable();
+            unreachable!();
         };
         self.add_row(row);
         for _ in 0..row.offers {
             let Ok(offer) = reader.offer() else {
-                unreachable();
+                unreachable!();
             };
             self.offers.push_reserved(offer);
         }

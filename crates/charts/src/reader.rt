@@ -4,7 +4,9 @@ ghost use Rattle.words.specs.Words.{most_rows};
 
 use words::Cursor;
 
-// Reads a chart from the words of its file, row by row.
+// Reads a chart from the words of its file, row by row. Its methods stand in reading.rt,
+// since their clauses name definitions that speak of this struct, and a struct with a ghost
+// field imports what its whole file does.
 #[derive(Drop)]
 pub(crate) struct Reader<'a> {
     pub(crate) cursor: Cursor<'a>,

@@ -45,7 +45,8 @@ impl<'a> Reader<'a> {
         Ok(arrow.target)
     }
 
-    // An offer: a visible label, and a row of the chart.
+    // An offer: a visible label, and a row of the chart. It is as the timeout but for the
+    // label that is asked for and what is made of it, which is most of either.
     pub(crate) fn offer(&mut self) -> Result<Offer, WordFault>
         ensures { Reads read_offer one self.old self.new result }
     {

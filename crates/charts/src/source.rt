@@ -54,7 +54,9 @@ impl Chart {
         })
     }
 
-    // The first state of the row with that number.
+    // The first state of the row with that number. That it is a row's is asked for here and
+    // in the two functions below: a type of row numbers would hold its chart, for one line
+    // each.
     #[tactic(auto, using(crate::proofs::Answering::entries))]
     fn first(&self, row: u32) -> u32
         requires { row < length (rows_of self.now) }

@@ -5,8 +5,8 @@ ghost use Rattle.words.specs.Bytes.{longest};
 
 use crate::row::{Offer, Stay};
 
-// One row: its first state, and where its offers stand among all offers, by two
-// numbers, since a Range cannot be copied as an entry is.
+// One row: its first state, and where its offers stand among all offers and how many they
+// are, which is asked for more often than where they end.
 #[derive(Clone, Copy)]
 pub(crate) struct RowEntry {
     pub(crate) stay: Stay,
@@ -18,7 +18,8 @@ pub(crate) struct RowEntry {
 // The rows of a chart, all their offers, and for each state the row that it
 // stands in. The room for every chart is reserved once, so that filling needs no
 // memory: hence one list of all offers, and not one for each row. A state's row is
-// looked up, so that no question searches.
+// looked up, so that no question searches. The methods stand in filling.rt, as those of
+// `Reader` do in reading.rt and for the same cause.
 #[derive(Drop)]
 pub(crate) struct Tables {
     pub(crate) rows: Vec<RowEntry>,

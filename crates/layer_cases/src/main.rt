@@ -12,7 +12,7 @@ use case_words::Run;
 
 mod over;
 
-// The bytes of the file with these tokens.
+// The bytes of the file with these tokens, which are runs of words alone.
 fn file_bytes(rt: &HostRuntime, tokens: &str) -> anyhow::Result<Vec<u8>> {
     let mut bytes = Vec::new(rt.alloc());
     for token in tokens.split_whitespace() {

@@ -20,6 +20,8 @@ enum Layer {
 }
 
 impl Layer {
+    // No `FromStr`: the numbers and the first chart are read before the kind, so that a line
+    // with two mistakes names the same one as ever.
     fn new(kind: &str, [a, b, c]: [u64; 3]) -> anyhow::Result<Layer> {
         match kind {
             "fence" => Ok(Layer::Fence(a)),

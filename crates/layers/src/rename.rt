@@ -84,10 +84,12 @@ impl<S: Source> Source for Rename<S> {
         self.source.states()
     }
 
+    #[tactic(auto, using(crate::proofs::Renaming::rename_count))]
     fn move_count(&self, s: u32) -> Result<u32, OutOfRange> {
         self.source.move_count(s)
     }
 
+    #[tactic(auto, using(crate::proofs::Renaming::rename_finds, crate::proofs::Renaming::rename_misses))]
     fn move_at(&self, s: u32, k: u32) -> Result<Move<u32>, OutOfRange> {
         let Move { label, target } = self.source.move_at(s, k)?;
         Ok(Move {
@@ -96,6 +98,7 @@ impl<S: Source> Source for Rename<S> {
         })
     }
 
+    #[tactic(auto, using(crate::proofs::Renaming::rename_tick))]
     fn tick(&self, s: u32) -> Result<Option<u32>, OutOfRange> {
         self.source.tick(s)
     }

@@ -27,11 +27,9 @@ fn add_source<S: Source>(text: &mut String, source: &S) -> Result<(), AllocError
 {
     let count = source.states();
     writeln!(text, "states {count}")?;
-    // `s` is a state's own number, so the loop goes over numbers.
+    // A source is asked by numbers, so the loop goes over them.
     for s in 0..count {
-        let Ok(state) = State::of(source, s) else {
-            unreachable()
-        };
+        let state = State::of(source, s).unwrap();
         add_line(text, &state)?;
     }
     Ok(())
@@ -48,7 +46,7 @@ fn add_line<S: Source>(text: &mut String, state: &State<'_, S>) -> Result<(), Al
     writeln!(text)
 }
 
-// Appends a move. `Move` and `Display` are both of other crates, so this is no `impl`.
+// Appends a move. No `Display` of `Move`, since the text is the listing's own.
 fn add_move(text: &mut String, step: Move<u32>) -> Result<(), AllocError>
     ensures { OnOk result (string_bytes text.new ≡ string_bytes text.old ++ move_text step) }
 {

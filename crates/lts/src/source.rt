@@ -21,7 +21,7 @@ pub struct Move<T> {
 pub struct OutOfRange;
 
 impl OutOfRange {
-    // The number of this refusal.
+    // The number of this refusal, which is about no place and so is no `Refusal`.
     pub fn code(self) -> u32
         ensures { result ≡ range_code }
     {

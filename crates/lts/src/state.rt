@@ -15,13 +15,12 @@ pub struct State<'a, S: Source> {
     ghost inside: { number < (S.meaning source.now).count },
 }
 
-// The moves of a state that are still to come, in order.
+// The moves of a state that are still to come, in order. The next one's place is counted
+// here, since a chain over the places would have a closure's type and so no name.
 #[derive(Drop)]
 pub struct Moves<'a, S: Source> {
-    source: &'a S,
-    number: u32,
+    state: State<'a, S>,
     next: u32,
-    ghost inside: { number < (S.meaning source.now).count },
 }
 
 impl<'a, S: Source> State<'a, S> {
@@ -47,10 +46,7 @@ impl<'a, S: Source> State<'a, S> {
     pub fn move_count(&self) -> u32
         ensures { result ≡ length ((S.meaning self.now.source.now).moves self.now.number) }
     {
-        match self.source.move_count(self.number) {
-            Ok(count) => count,
-            Err(_) => unreachable(),
-        }
+        self.source.move_count(self.number).unwrap()
     }
 
     // Its `k`-th move, if it has so many.
@@ -63,13 +59,13 @@ impl<'a, S: Source> State<'a, S> {
 
     // Its moves, in order.
     pub fn moves(&self) -> Moves<'a, S>
-        ensures { drop result.next ((S.meaning result.source.now).moves result.number) ≡ (S.meaning self.now.source.now).moves self.now.number }
+        ensures { drop result.next ((S.meaning result.state.source.now).moves result.state.number) ≡ (S.meaning self.now.source.now).moves self.now.number }
     {
-        Moves {
+        let state = State {
             source: self.source,
             number: self.number,
-            next: 0,
-        }
+        };
+        Moves { state, next: 0 }
     }
 
     // Where its tick leads, if it has one.
@@ -77,25 +73,20 @@ impl<'a, S: Source> State<'a, S> {
     pub fn tick(&self) -> Option<u32>
         ensures { result ≡ tick_of ((S.meaning self.now.source.now).moves self.now.number) }
     {
-        match self.source.tick(self.number) {
-            Ok(target) => target,
-            Err(_) => unreachable(),
-        }
+        self.source.tick(self.number).unwrap()
     }
 }
 
 impl<'a, S: Source> Iterator for Moves<'a, S> {
     type Item = Move<u32>;
 
-    ghost next_gives = { YieldsFirst (λ m. drop m.next ((S.Source.meaning m.source.now).moves m.number)) };
+    ghost next_gives = { YieldsFirst (λ m. drop m.next ((S.Source.meaning m.state.source.now).moves m.state.number)) };
 
-    ghost remaining = { item_count (λ m. drop m.next ((S.Source.meaning m.source.now).moves m.number)) };
+    ghost remaining = { item_count (λ m. drop m.next ((S.Source.meaning m.state.source.now).moves m.state.number)) };
 
-    #[tactic(auto, using(crate::proofs::Walking::none_left, crate::proofs::Walking::one_left, crate::proofs::Walking::few_found))]
+    #[tactic(auto, using(crate::proofs::Walking::none_left, crate::proofs::Walking::one_left, crate::proofs::Walking::few_left))]
     fn next(&mut self) -> Option<Move<u32>> {
-        let Ok(step) = self.source.move_at(self.number, self.next) else {
-            return None;
-        };
+        let step = self.state.move_at(self.next)?;
         self.next += 1;
         Some(step)
     }

@@ -18,17 +18,14 @@ pub struct WordFile {
 }
 
 // Appends the words of `bytes`, for which there is room.
-#[tactic(auto, using(crate::proofs::Little::append_more))]
 fn append(words: &mut Vec<u32>, bytes: &[u8])
     requires { vec_len words.old + length bytes.now / 4 ≤ vec_capacity words.old }
     ensures items { words.new.items ≡ words.old.items ++ little bytes.now }
     ensures capacity { vec_capacity words.new ≡ vec_capacity words.old }
 {
-    // The pattern names the four bytes; slices from `chunks_exact` would be indexed.
-    let mut left = bytes;
-    while let [a, b, c, d, rest @ ..] = left {
-        words.push_reserved(u32::from_le_bytes([*a, *b, *c, *d]));
-        left = rest;
+    let (chunks, _) = bytes.as_chunks::<4>();
+    for word in chunks {
+        words.push_reserved(u32::from_le_bytes(*word));
     }
 }
 

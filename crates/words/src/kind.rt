@@ -28,11 +28,11 @@ pub(crate) enum Kind {
     Offers,
 }
 
-impl Kind {
-    // The kind of the word.
-    pub(crate) fn of(word: u32) -> Kind
-        ensures { number result ≡ kind word }
-    {
+// The kind of a word.
+impl From<u32> for Kind {
+    ghost from_gives = { λ w k. number k ≡ kind w };
+
+    fn from(word: u32) -> Kind {
         match word / PAYLOADS {
             0 => Kind::Nil,
             1 => Kind::Prefix,

@@ -106,7 +106,7 @@ impl PlacedWord {
 #[cfg(test)]
 mod tests {
     use super::*;
-    use crate::word::code;
+    use crate::word::fault_code;
 
     // The words below lie at the edges of the ranges.
     #[test]
@@ -125,7 +125,7 @@ mod tests {
             0x6000_0FFF,
             0x7FFF_FFFF,
         ] {
-            assert_eq!(rt; code(*word, PlacedWord::operator), None);
+            assert_eq!(rt; fault_code(*word, PlacedWord::operator), None);
         }
     }
 
@@ -141,7 +141,7 @@ mod tests {
             0x6000_1041,
             0x8000_0000,
         ] {
-            assert_eq!(rt; code(*word, PlacedWord::operator), Some(2));
+            assert_eq!(rt; fault_code(*word, PlacedWord::operator), Some(2));
         }
     }
 
@@ -157,7 +157,7 @@ mod tests {
             0x6000_003F,
             0x6000_0FC0,
         ] {
-            assert_eq!(rt; code(*word, PlacedWord::operator), Some(3));
+            assert_eq!(rt; fault_code(*word, PlacedWord::operator), Some(3));
         }
     }
 

@@ -58,7 +58,7 @@ impl PlacedWord {
     pub(crate) fn kind(self) -> Kind
         ensures { number result ≡ kind_of self.word }
     {
-        Kind::of(self.word)
+        Kind::from(self.word)
     }
 
     // All of the word but its kind.
@@ -82,7 +82,8 @@ impl PlacedWord {
         WordFault::Range(self.place)
     }
 
-    // A number from `least` to `most`, in a word of the kind that is due.
+    // A number from `least` to `most`, in a word of the kind that is due. The five
+    // decoders below are this one, each with a name for its kind and range.
     fn counted(self, due: Kind, least: u32, most: u32) -> Result<u32, WordFault>
         ensures { result ≡ counted_in (number due) least most self.place self.word }
     {
@@ -90,6 +91,7 @@ impl PlacedWord {
             return Err(self.ill_formed());
         }
         let payload = self.payload();
+        // Not by a range's `contains`: the proof then stands at the limit of the search.
         if payload < least || payload > most {
             return Err(self.out_of_range());
         }
@@ -187,7 +189,7 @@ pub fn decoding_is_exact()
 
 // The code of the fault that is read in the word, if it is one: what the tests look at.
 #[cfg(test)]
-pub(crate) fn code<T: Drop, F: FnOnce(PlacedWord) -> Result<T, WordFault>>(
+pub(crate) fn fault_code<T: Drop, F: FnOnce(PlacedWord) -> Result<T, WordFault>>(
     word: u32,
     read: F,
 ) -> Option<u32>
@@ -222,7 +224,7 @@ mod tests {
             0xF000_0000,
             0xF000_003E,
         ] {
-            assert_eq!(rt; code(*word, PlacedWord::decode), None);
+            assert_eq!(rt; fault_code(*word, PlacedWord::decode), None);
         }
     }
 
@@ -241,7 +243,7 @@ mod tests {
             0xD000_A000,
             0xF000_003F,
         ] {
-            assert_eq!(rt; code(*word, PlacedWord::decode), Some(3));
+            assert_eq!(rt; fault_code(*word, PlacedWord::decode), Some(3));
         }
     }
 

@@ -22,5 +22,5 @@ returns g c =
     let names = in_set me.names.bits in
     let state = c.in_ok-state.state in
     let is = c.in_ok-state.ensures in
-    let x = nth_from_yields_List c.nth.result c.nth.new.self c.args.k c.nth.ensures.ran (YieldsList-from_filter _ (passes names) (YieldsList-at c.filter-kept.ensures.source (YieldsList-from_first (λ x. x) (λ m. drop m.next ((g.S.Source.meaning m.source.now).moves m.number)) _ c.moves.ensures)) c.filter-kept.ensures.closure (λ x r q k. search (rules, tests))) in
+    let x = nth_from_yields_List c.nth.result c.nth.new.self c.args.k c.nth.ensures.ran (YieldsList-from_filter _ (passes names) (YieldsList-at c.filter-kept.ensures.source (YieldsList-from_first (λ x. x) (λ m. drop m.next ((g.S.Source.meaning m.state.source.now).moves m.state.number)) _ c.moves.ensures)) c.filter-kept.ensures.closure (λ x r q k. search (rules, tests))) in
     rw (c.ok_or.ensures.value, sym (option_map_id c.nth.result), x, is.0, is.1) (nth_is (fence_meaning names (g.S.Source.meaning me.source)) c.args.s c.args.k (omega (arith, state.inside, is.1, ap (λ v. (g.S.Source.meaning v).count) is.0)))

@@ -21,5 +21,5 @@ returns g c =
     let names = in_set me.names.bits in
     let state = c.in_ok-state.state in
     let is = c.in_ok-state.ensures in
-    let n = count_from_yields_List _ c.count.result c.count.ensures.ran (YieldsList-from_filter _ (passes names) (YieldsList-at c.filter-kept.ensures.source (YieldsList-from_first (λ x. x) (λ m. drop m.next ((g.S.Source.meaning m.source.now).moves m.number)) _ c.moves.ensures)) c.filter-kept.ensures.closure (λ x r q k. search (rules, tests))) in
+    let n = count_from_yields_List _ c.count.result c.count.ensures.ran (YieldsList-from_filter _ (passes names) (YieldsList-at c.filter-kept.ensures.source (YieldsList-from_first (λ x. x) (λ m. drop m.next ((g.S.Source.meaning m.state.source.now).moves m.state.number)) _ c.moves.ensures)) c.filter-kept.ensures.closure (λ x r q k. search (rules, tests))) in
     rw (n, is.0, is.1) (sym (counted (fence_meaning names (g.S.Source.meaning me.source)) c.args.s (omega (arith, state.inside, is.1, ap (λ v. (g.S.Source.meaning v).count) is.0))))
