@@ -12,7 +12,8 @@ use case_words::Run;
 
 mod over;
 
-// The bytes of the file with these tokens, which are runs of words alone.
+// The bytes of the file with these tokens, which are runs of words alone; in the other
+// table they are also single bytes, and end at a `#`.
 fn file_bytes(rt: &HostRuntime, tokens: &str) -> anyhow::Result<Vec<u8>> {
     let mut bytes = Vec::new(rt.alloc());
     for token in tokens.split_whitespace() {
