@@ -13,7 +13,14 @@ fn add_token(bytes: &mut Vec<u8>, token: &str) -> anyhow::Result<()> {
     match token.strip_prefix('+') {
         Some(count) => {
             let count = count.parse::<u32>()?;
-            bytes.resize(bytes.len() + count as usize, 0)?;
+            // Word by word, since `resize` of them all takes the very room, which the
+            // next token then doubles.
+            let words = Run {
+                word: 0,
+                count: count / 4,
+            };
+            words.append_to(bytes)?;
+            bytes.resize(bytes.len() + count as usize % 4, 0)?;
         }
         None => token.parse::<Run>()?.append_to(bytes)?,
     }
@@ -49,6 +56,7 @@ fn main(rt: HostRuntime) -> anyhow::Result<()> {
 mod tests {
     use case_words::TWO_ROWS;
     use charts::Chart;
+    use listing::refusal_text;
     use lts::{Move, OutOfRange, Source};
     use std::test::Fail;
 
@@ -79,6 +87,14 @@ mod tests {
         assert_eq!(rt; chart.tick(1), Ok(Some(2)));
         assert_eq!(rt; chart.tick(2), Ok(None));
         assert!(rt; chart.tick(4).is_err());
+        Ok(())
+    }
+
+    // Any two numbers are listed as a refusal, as those of one that is no `Refusal`.
+    #[test]
+    fn refusals(rt: HostRuntime) -> Result<(), Fail> {
+        let text = refusal_text(rt.alloc(), (OutOfRange.code(), 4_096))?;
+        assert!(rt; text.as_str() == "refused 10 4096\n");
         Ok(())
     }
 

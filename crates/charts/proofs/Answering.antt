@@ -1,8 +1,7 @@
 -- What a chart's invariant says of its tables, as the questions need it.
-use Rattle.std.proofs.Common.{◌≡◌, ℕ, ◌+◌, ◌-◌, ◌^◌, ◌<◌, ◌≤◌, List, [], ◌∷◌, map, length, get_or, take, drop, Some, None, Ok, Err, Option, Bor, unwrap_or, vec_items, vec_len, sym, ap, ◌∙◌, zero-add, arith}
+use Rattle.std.proofs.Common.{◌≡◌, ℕ, ◌+◌, ◌-◌, ◌<◌, ◌≤◌, List, [], ◌∷◌, map, length, get_or, take, drop, Ok, Err, Option, vec_items, vec_len, sym, ap, ◌∙◌, zero-add, arith}
 use Rattle.std.proofs.lemmas.List.{length-map, length-append, length-take, length-drop, get_or_at, get_or_append_left, get_or-map, get_or_default}
 use Rattle.std.proofs.lemmas.Bool.{and_parts, ltb-true}
-use Rattle.std.specs.Slice.{IsGetRangeResult}
 use Rattle.lts.specs.declared.source.Move.{Move}
 use Rattle.lts.specs.Answers.{out_of_range, tick_of, move_count, nth_move, tick_target}
 use Rattle.lts.specs.Meaning.{no_move}
@@ -39,14 +38,6 @@ states_count c = c.tables.owners.ok.0 ∙ ap length c.owned ∙ owners_length 0 
 pub few_states : (c : Chart) → total (rows_of c) ≤ 4096
 few_states c = (chart_limits c).small
 
--- where the part that an entry names lies past the table, it is empty
-part_or_none : {X : Type 0} (xs : List X) (from n : ℕ) (o : Option (Bor (List X))) (d : Bor (List X))
-    → n ≡ length (take n (drop from xs)) → d.now ≡ [] → IsGetRangeResult xs from (from + n) o → (unwrap_or o d).now ≡ take n (drop from xs)
-part_or_none xs from n (Some r) d h e p = p.0.2 ∙ ap (λ j. take j (drop from xs)) (omega arith)
-part_or_none xs from n None d h e p =
-    let none : n ≡ 0 = omega (arith, length-take n (drop from xs), length-drop from xs) in
-    e ∙ sym (ap (λ j. take j (drop from xs)) none)
-
 -- the first state of a row, by its entry
 pub entry_first : (c : Chart) (r : ℕ) (e : RowEntry) → r < length (rows_of c) → e ≡ get_or (vec_items c.tables.rows) r e → e.first ≡ first (rows_of c) r
 entry_first c r e inside is =
@@ -80,10 +71,8 @@ module _ (c : Chart) (s r : ℕ) (owner : r ≡ get_or (vec_items c.tables.owner
     first_is : e.first ≡ first (rows_of c) (row_of (rows_of c) s)
     first_is = cc (entry_first c r e owner_inside is, owner_is)
 
-    count_is : e.offers ≡ length (take e.offers (drop e.from (offers c)))
-    count_is =
-        let n : e.offers ≡ length (state_row c s).offers = cc (get_or-map (λ (v : RowEntry). v.offers) (row_entries c) r e 0 here, get_or-map (λ (x : Row). length x.offers) (rows_of c) r (record { stay = Endless; offers = [] }) 0 owner_inside, owner_is) in
-        n ∙ ap (λ (x : Row). length x.offers) (sym row_is)
+    pub count_is : e.offers ≡ length (state_row c s).offers
+    count_is = cc (get_or-map (λ (v : RowEntry). v.offers) (row_entries c) r e 0 here, get_or-map (λ (x : Row). length x.offers) (rows_of c) r (record { stay = Endless; offers = [] }) 0 owner_inside, owner_is)
 
     pub stay_is : e.stay ≡ (state_row c s).stay
     stay_is = cc row_is
@@ -94,27 +83,34 @@ module _ (c : Chart) (s r : ℕ) (owner : r ≡ get_or (vec_items c.tables.owner
     pub second_is : s - e.first ≡ second_of (rows_of c) s
     second_is = cc first_is
 
-    pub offers_fit : e.from < 2 ^ 64 → e.from + e.offers < 2 ^ 64
-    offers_fit h = omega (arith, count_is, length-take e.offers (drop e.from (offers c)), length-drop e.from (offers c), c.tables.offers.ok)
-
-    pub offers_are : (o : Option (Bor (List Offer))) (d : Bor (List Offer)) → d.now ≡ [] → IsGetRangeResult (offers c) e.from (e.from + e.offers) o → (unwrap_or o d).now ≡ (state_row c s).offers
-    offers_are o d h p = part_or_none (offers c) e.from e.offers o d count_is h p ∙ ap (λ (x : Row). x.offers) row_is
+    pub offers_are : take e.offers (drop e.from (offers c)) ≡ (state_row c s).offers
+    offers_are = cc row_is
 
 -- what the tables say of rows and states
-pub ruleset entries = (rows_count, states_count, entry_first, owner_fits, state_inside, begun, offers_fit, second_is, stay_is, offers_are)
+pub ruleset entries = (rows_count, states_count, entry_first, owner_fits, state_inside, begun, second_is, stay_is, count_is, offers_are)
 
 -- what holds of a state of a chart
 module _ (t : Standing) where
   abbrev xs : List Row
   xs = rows_of t.chart.now
 
-  pub timeout_row : (d r : ℕ) → t.stay ≡ Finite d r → r < length xs
+  pub timeout_row : (d r : ℕ) → t.row.stay ≡ Finite d r → r < length xs
   timeout_row d r e =
       let fits = rw (← t.stays, e) at (stay_in_range xs (chart_limits t.chart.now) t.state t.inside) in
       ltb-true r (length xs) (and_parts _ _ fits).1
 
-  pub few_in : length t.offers.now ≤ 62
-  few_in = rw t.offered (few_offers xs (chart_limits t.chart.now) t.state t.inside)
+  pub few_in : (os : List Offer) → os ≡ (state_row t.chart.now t.state).offers → length os ≤ 62
+  few_in os e = rw e (few_offers xs (chart_limits t.chart.now) t.state t.inside)
+
+  -- the part of the table that its row's entry names
+  pub part_inside : (t.row.offers ≡ 0 → ⊥) → t.row.from + t.row.offers ≤ vec_len t.chart.now.tables.offers
+  part_inside h = omega (arith, ap length t.offered, length-take t.row.offers (drop t.row.from (offers t.chart.now)), length-drop t.row.from (offers t.chart.now), t.chart.now.tables.offers.ok.0)
+
+  pub part_is : take (t.row.from + t.row.offers - t.row.from) (drop t.row.from (offers t.chart.now)) ≡ (state_row t.chart.now t.state).offers
+  part_is = ap (λ j. take j (drop t.row.from (offers t.chart.now))) (omega arith) ∙ t.offered
+
+  pub no_part : t.row.offers ≡ 0 → [] ≡ (state_row t.chart.now t.state).offers
+  no_part h = rw h at t.offered
 
   module _ (c : Chart) (s : ℕ) (of : t.chart.now ≡ c) (is : t.state ≡ s) where
     abbrev ms : List (Move ℕ)
@@ -126,53 +122,62 @@ module _ (t : Standing) where
     inside : s < total (rows_of c)
     inside = rw (← of, ← is) t.inside
 
-    offers_of : t.offers.now ≡ (state_row c s).offers
-    offers_of = cc
-
-    closing_of : closing_move (rows_of t.chart.now) t.stay t.state t.second ≡ closing
+    closing_of : closing_move (rows_of t.chart.now) t.row.stay t.state t.second ≡ closing
     closing_of = cc
 
-    offered_length : length (map (offer_move (rows_of c)) (state_row c s).offers) ≡ length t.offers.now
-    offered_length = cc (length-map (state_row c s).offers (offer_move (rows_of c)), offers_of)
+    abbrev count : ℕ
+    count = length (state_row c s).offers
 
-    list_length : length ms ≡ length t.offers.now + 1
+    offered_length : length (map (offer_move (rows_of c)) (state_row c s).offers) ≡ count
+    offered_length = length-map (state_row c s).offers (offer_move (rows_of c))
+
+    list_length : length ms ≡ count + 1
     list_length = cc (length-append (map (offer_move (rows_of c)) (state_row c s).offers) (closing ∷ []), offered_length)
 
-    pub counts : Ok (length t.offers.now + 1) ≡ move_count (meaning_of c) s
-    counts = cc (list_length, counted (meaning_of c) s inside)
-
-    offer_is : (k : ℕ) (o : Offer) → k < length t.offers.now → o ≡ get_or t.offers.now k o → o ≡ get_or (state_row c s).offers k no_offer
-    offer_is k o h e = cc (get_or_default t.offers.now k o no_offer h, offers_of)
-
-    offered_in : (k : ℕ) → k < length t.offers.now → k < length (state_row c s).offers
-    offered_in k h = rw (← offers_of) h
-
-    pub offer_row : (k : ℕ) (o : Offer) → k < length t.offers.now → o ≡ get_or t.offers.now k o → o.row < length (rows_of c)
-    offer_row k o h e = rw (offer_is k o h e) (offer_in_range (rows_of c) (chart_limits c) s inside k (offered_in k h)).1
-
-    nth : (k : ℕ) → k < length t.offers.now + 1 → Ok (get_or ms k no_move) ≡ nth_move (meaning_of c) s k
+    nth : (k : ℕ) → k < count + 1 → Ok (get_or ms k no_move) ≡ nth_move (meaning_of c) s k
     nth k h = sym (found (meaning_of c) s k inside (omega (arith, list_length)))
 
-    pub nth_offer : (k : ℕ) (o : Offer) (m : Move ℕ) → k < length t.offers.now → o ≡ get_or t.offers.now k o → m ≡ offer_move (rows_of c) o → Ok m ≡ nth_move (meaning_of c) s k
-    nth_offer k o m h e q =
-        let l : k < length (map (offer_move (rows_of c)) (state_row c s).offers) = omega (arith, offered_length) in
-        cc (
-          offer_is k o h e,
-          offer_at (rows_of c) (chart_limits c) s inside k (offered_in k h),
-          get_or_append_left (map (offer_move (rows_of c)) (state_row c s).offers) (closing ∷ []) no_move k l,
-          nth k (omega arith),
-        )
+    -- the offers of its row, as a slice
+    module _ (os : List Offer) (offered : os ≡ (state_row t.chart.now t.state).offers) where
+      offers_of : os ≡ (state_row c s).offers
+      offers_of = cc
 
-    pub nth_closing : (k : ℕ) (m : Move ℕ) → k ≡ length t.offers.now → m ≡ closing_move (rows_of t.chart.now) t.stay t.state t.second → Ok m ≡ nth_move (meaning_of c) s k
-    nth_closing k m h q =
-        cc (get_or_at (map (offer_move (rows_of c)) (state_row c s).offers) closing [] no_move k (offered_length ∙ sym h), nth k (omega arith))
+      pub counts : Ok (length os + 1) ≡ move_count (meaning_of c) s
+      counts = cc (list_length, ap length offers_of, counted (meaning_of c) s inside)
 
-    pub nth_past : (k : ℕ) → length t.offers.now < k → Err out_of_range ≡ nth_move (meaning_of c) s k
-    nth_past k h = sym (past_moves (meaning_of c) s k (omega (arith, list_length)))
+      offer_is : (k : ℕ) (o : Offer) → k < length os → o ≡ get_or os k o → o ≡ get_or (state_row c s).offers k no_offer
+      offer_is k o h e = cc (get_or_default os k o no_offer h, offers_of)
 
-    pub ticks : (m : Move ℕ) (o : Option ℕ) → m ≡ closing_move (rows_of t.chart.now) t.stay t.state t.second → o ≡ tick_of (m ∷ []) → Ok o ≡ tick_target (meaning_of c) s
+      offered_in : (k : ℕ) → k < length os → k < count
+      offered_in k h = rw (← offers_of) h
+
+      pub offer_row : (k : ℕ) (o : Offer) → k < length os → o ≡ get_or os k o → o.row < length (rows_of c)
+      offer_row k o h e = rw (offer_is k o h e) (offer_in_range (rows_of c) (chart_limits c) s inside k (offered_in k h)).1
+
+      pub nth_offer : (k : ℕ) (o : Offer) (m : Move ℕ) → k < length os → o ≡ get_or os k o → m ≡ offer_move (rows_of c) o → Ok m ≡ nth_move (meaning_of c) s k
+      nth_offer k o m h e q =
+          let l : k < length (map (offer_move (rows_of c)) (state_row c s).offers) = omega (arith, offered_length, offered_in k h) in
+          cc (
+            offer_is k o h e,
+            offer_at (rows_of c) (chart_limits c) s inside k (offered_in k h),
+            get_or_append_left (map (offer_move (rows_of c)) (state_row c s).offers) (closing ∷ []) no_move k l,
+            nth k (omega (arith, offered_in k h)),
+          )
+
+      pub nth_closing : (k : ℕ) (m : Move ℕ) → k ≡ length os → m ≡ closing_move (rows_of t.chart.now) t.row.stay t.state t.second → Ok m ≡ nth_move (meaning_of c) s k
+      nth_closing k m h q =
+          let e : k ≡ count = h ∙ ap length offers_of in
+          cc (get_or_at (map (offer_move (rows_of c)) (state_row c s).offers) closing [] no_move k (offered_length ∙ sym e), nth k (omega arith))
+
+      pub nth_past : (k : ℕ) → length os < k → Err out_of_range ≡ nth_move (meaning_of c) s k
+      nth_past k h = sym (past_moves (meaning_of c) s k (omega (arith, list_length, ap length offers_of)))
+
+    pub ticks : (m : Move ℕ) (o : Option ℕ) → m ≡ closing_move (rows_of t.chart.now) t.row.stay t.state t.second → o ≡ tick_of (m ∷ []) → Ok o ≡ tick_target (meaning_of c) s
     ticks m o q h =
         cc (state_tick (rows_of c) (chart_limits c) s inside, ticked (meaning_of c) s inside)
+
+-- the offers of a state as a part of the table
+pub ruleset part = (part_inside, part_is, no_part)
 
 -- what the questions are answered
 pub ruleset answers = (few_states, timeout_row, few_in, offer_row, counts, nth_offer, nth_closing, nth_past, ticks, not_counted, no_state, not_ticked)

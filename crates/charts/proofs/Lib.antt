@@ -10,3 +10,4 @@ pub mod Checking
 pub mod Holding
 pub mod Refilling
 pub mod Placing
+pub mod Bounds

@@ -9,7 +9,8 @@ use Rattle.charts.specs.declared.fault.ChartFault.TheVariants.{TooManyStates}
 use Rattle.charts.specs.declared.row.Offer.{Offer}
 use Rattle.charts.specs.declared.reading.RowRead.{RowRead}
 use Rattle.charts.specs.declared.reader.Reader.{Reader}
-use Rattle.charts.specs.Rows.{Row, stay_words, words_with}
+use Rattle.words.specs.Words.{most_offers}
+use Rattle.charts.specs.Rows.{Row, last_second, stay_words, words_with}
 use Rattle.charts.specs.Reading.{timeout_in, offer_in, read_stay, read_count, read_row, read_rows, rows_words, read_chart}
 
 -- the reader stands k words further
@@ -40,6 +41,12 @@ row_read x = record { stay = x.stay; offers = length x.offers }
 
 abbrev pub read_words : RowRead → ℕ
 read_words x = words_with x.stay x.offers
+
+-- what is known of a row that was read from the front of ws
+pub record RowBounds (ws : List ℕ) (x : RowRead) : Type 0 where
+  pub inside : read_words x ≤ length ws
+  pub few : x.offers ≤ most_offers
+  pub short : last_second x.stay ≤ 4095
 
 -- a row as far as its offers
 abbrev pub head_words : RowRead → ℕ

@@ -3,7 +3,7 @@ ghost use Rattle.words.specs.Reading.{then, mapped};
 ghost use Rattle.lts.specs.Meaning.{most_states};
 ghost use Rattle.charts.specs.Rows.{stay_states, stay_words, total};
 ghost use Rattle.charts.specs.Reading.{read_stay, read_chart, check_chart};
-ghost use Rattle.charts.specs.Reader.{Reads, one, read_target, read_offer, read_words, head_words, read_head_of, read_plain, Begun, counted};
+ghost use Rattle.charts.specs.Reader.{Reads, one, read_target, read_offer, read_words, head_words, read_head_of, read_plain, RowBounds, Begun, counted};
 
 use crate::fault::ChartFault;
 use crate::reader::Reader;
@@ -86,9 +86,10 @@ impl<'a> Reader<'a> {
         })
     }
 
-    // A row with its offers.
+    // A row with its offers. No row has more states than a source may have.
     fn row(&mut self) -> Result<RowRead, WordFault>
-        ensures { Reads read_plain read_words self.old self.new result }
+        ensures read { Reads read_plain read_words self.old self.new result }
+        ensures bounds { IfOk result (RowBounds self.old.cursor.rest.now) }
     {
         let row = self.head()?;
         for _ in 0..row.offers {

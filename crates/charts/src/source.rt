@@ -1,4 +1,4 @@
-ghost use Rattle.std.specs.Prelude.{◌≡◌, ◌<◌, ◌≤◌, [], ◌∷◌, length, MatchResult};
+ghost use Rattle.std.specs.Prelude.{◌≡◌, ◌<◌, ◌≤◌, [], ◌∷◌, length, take, drop, MatchResult};
 ghost use Rattle.lts.specs.Answers.{tick_of};
 ghost use Rattle.charts.specs.Rows.{total, first as first_of, second_of};
 ghost use Rattle.charts.specs.Meaning.{arrival as arrival_of, offer_move, closing_move};
@@ -8,22 +8,24 @@ ghost use Rattle.charts.specs.Laws.{chart_lawful};
 
 use crate::chart::Chart;
 use crate::row::{Offer, Stay, seconds};
+use crate::tables::RowEntry;
 use lts::label::{TAU, TICK};
 use lts::{Move, OutOfRange, Source};
 
-// A state of a chart, with what the tables say of its row: how many seconds of
-// the row have passed, how long it is stayed in, and its offers.
+// A state of a chart, with its row's entry in the tables, and how many seconds
+// of the row have passed. The slice of the row's offers is made only where it is
+// asked for, since a tick needs none.
 #[derive(Drop)]
 struct Standing<'a> {
     chart: &'a Chart,
     state: u32,
     second: u32,
-    stay: Stay,
-    offers: &'a [Offer],
+    row: RowEntry,
     ghost inside: { state < total (rows_of chart.now) },
     ghost since: { second ≡ second_of (rows_of chart.now) state },
-    ghost stays: { stay ≡ (state_row chart.now state).stay },
-    ghost offered: { offers.now ≡ (state_row chart.now state).offers },
+    ghost stays: { row.stay ≡ (state_row chart.now state).stay },
+    ghost counted: { row.offers ≡ length (state_row chart.now state).offers },
+    ghost offered: { take row.offers (drop row.from chart.now.tables.offers.items) ≡ (state_row chart.now state).offers },
 }
 
 // How a list of moves ends: with a tick, or with the timeout that leaves a row
@@ -43,14 +45,11 @@ impl Chart {
             return Err(OutOfRange);
         };
         let row = self.tables.rows[owner as usize];
-        // The entry of a row without offers may name any place.
-        let offers = self.tables.offers.get(row.from..row.from + row.offers);
         Ok(Standing {
             chart: self,
             state,
             second: state - row.first,
-            stay: row.stay,
-            offers: offers.unwrap_or(&[]),
+            row,
         })
     }
 
@@ -86,17 +85,35 @@ impl Chart {
     }
 }
 
-impl Standing<'_> {
-    // What comes behind the offers.
-    #[tactic(auto, using(crate::proofs::Answering::answers), unfolding(crate::specs::Meaning::closing_move))]
-    fn closing(&self) -> Closing
-        ensures { closed_by result ≡ closing_move (rows_of self.now.chart.now) self.now.stay self.now.state self.now.second }
+impl<'a> Standing<'a> {
+    // The offers of its row.
+    #[tactic(auto, using(crate::proofs::Answering::part))]
+    fn offers(&self) -> &'a [Offer]
+        ensures { result.now ≡ (state_row self.now.chart.now self.now.state).offers }
     {
-        match self.stay {
-            Stay::Finite { tenths, .. } if self.second < seconds(tenths) => {
-                Closing::Tick(self.state + 1)
+        let RowEntry { from, offers, .. } = self.row;
+        // The entry of a row without offers may name any place.
+        if offers == 0 {
+            return &[];
+        }
+        &self.chart.tables.offers[from..from + offers]
+    }
+
+    // What comes behind the offers. Inlined always, as `Closing::tick` is: otherwise a
+    // question for a tick builds the enum and takes it apart, in up to twice the time.
+    #[tactic(auto, using(crate::proofs::Answering::answers), unfolding(crate::specs::Meaning::closing_move))]
+    #[inline(always)]
+    fn closing(&self) -> Closing
+        ensures { closed_by result ≡ closing_move (rows_of self.now.chart.now) self.now.row.stay self.now.state self.now.second }
+    {
+        match self.row.stay {
+            Stay::Finite { tenths, timeout } => {
+                if self.second < seconds(tenths) {
+                    Closing::Tick(self.state + 1)
+                } else {
+                    Closing::Timeout(self.chart.first(timeout))
+                }
             }
-            Stay::Finite { timeout, .. } => Closing::Timeout(self.chart.first(timeout)),
             Stay::Endless => Closing::Tick(self.state),
         }
     }
@@ -118,6 +135,7 @@ impl Closing {
 
     // Where it leads if it is a tick.
     #[tactic(auto, unfolding(lts::specs::Answers::tick_of))]
+    #[inline(always)]
     fn tick(self) -> Option<u32>
         ensures { result ≡ tick_of (closed_by self ∷ []) }
     {
@@ -141,13 +159,13 @@ impl Source for Chart {
     #[tactic(auto, using(crate::proofs::Answering::answers))]
     fn move_count(&self, s: u32) -> Result<u32, OutOfRange> {
         let state = self.standing(s)?;
-        Ok(state.offers.len() as u32 + 1)
+        Ok(state.offers().len() as u32 + 1)
     }
 
     #[tactic(auto, using(crate::proofs::Answering::answers))]
     fn move_at(&self, s: u32, k: u32) -> Result<Move<u32>, OutOfRange> {
         let state = self.standing(s)?;
-        let offers = state.offers;
+        let offers = state.offers();
         match offers.get(k as usize) {
             Some(offer) => Ok(self.offer_move(*offer)),
             None if k as usize == offers.len() => Ok(state.closing().step()),

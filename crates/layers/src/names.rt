@@ -1,4 +1,4 @@
-ghost use Rattle.std.specs.Prelude.{◌≡◌, ◌<◌, true, false, MatchResult};
+ghost use Rattle.std.specs.Prelude.{◌≡◌, ◌^◌, ◌<◌, true, false, MatchResult};
 ghost use Rattle.lts.specs.Restriction.{named_by};
 ghost use Rattle.layers.specs.Names.{in_set, names_code, names_place};
 
@@ -26,7 +26,10 @@ impl Refusal for NameSetFault {
         3
     }
 
-    fn place(self) -> usize {
+    fn place(self) -> usize
+        ensures value { result ≡ names_place }
+        ensures bound { result < 2 ^ 32 }
+    {
         0
     }
 }

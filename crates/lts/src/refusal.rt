@@ -15,3 +15,18 @@ pub trait Refusal: Copy {
     fn place(self) -> usize
         ensures { result ≡ about self };
 }
+
+// Any two numbers are a refusal: its code, and the place.
+impl Refusal for (u32, usize) {
+    ghost number = { λ r. r.0 };
+
+    ghost about = { λ r. r.1 };
+
+    fn code(self) -> u32 {
+        self.0
+    }
+
+    fn place(self) -> usize {
+        self.1
+    }
+}

@@ -1,4 +1,4 @@
-ghost use Rattle.std.specs.Prelude.{◌≡◌};
+ghost use Rattle.std.specs.Prelude.{◌≡◌, ◌^◌, ◌<◌};
 ghost use Rattle.layers.specs.Pairs.{pair_code, pair_place};
 
 use lts::Refusal;
@@ -24,7 +24,10 @@ impl Refusal for PairFault {
     }
 
     // Where there are too many moves it is about the state.
-    fn place(self) -> usize {
+    fn place(self) -> usize
+        ensures value { result ≡ pair_place self }
+        ensures bound { result < 2 ^ 32 }
+    {
         match self {
             PairFault::TooManyStates => 0,
             PairFault::TooManyMoves(state) => state as usize,

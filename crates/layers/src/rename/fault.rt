@@ -1,4 +1,4 @@
-ghost use Rattle.std.specs.Prelude.{◌≡◌};
+ghost use Rattle.std.specs.Prelude.{◌≡◌, ◌^◌, ◌<◌};
 ghost use Rattle.layers.specs.Renames.{rename_code, rename_place};
 
 use lts::Refusal;
@@ -21,7 +21,10 @@ impl Refusal for RenameFault {
     }
 
     // 0 for the first number, 1 for the second.
-    fn place(self) -> usize {
+    fn place(self) -> usize
+        ensures value { result ≡ rename_place self }
+        ensures bound { result < 2 ^ 32 }
+    {
         match self {
             RenameFault::From => 0,
             RenameFault::To => 1,

@@ -18,7 +18,7 @@ pub returns-in_err-row : goal.returns-in_err-row
 returns-in_err-row c =
     let p = err_from_is_err_and c.from_residual-in_err-row.result c.from_residual-in_err-row.ensures.1 in
     let i = c.loop.invariant in
-    rw (p.1, p.2) (refused_behind c.args.words.now c.in_ok-reader.reader c.in_ok-reader.ensures _ (turn_fails rows_repeat _ _ _ _ _ i.turned c.loop-test.true (plain_fault _ _ _ c.in_err-row.ensures)))
+    rw (p.1, p.2) (refused_behind c.args.words.now c.in_ok-reader.reader c.in_ok-reader.ensures _ (turn_fails rows_repeat _ _ _ _ _ i.turned c.loop-test.true (plain_fault _ _ _ c.in_err-row.ensures.read)))
 
 pub add_states-states-requires : goal.add_states-states-requires
 add_states-states-requires c = rw c.loop.invariant.sums (few_states c.loop.invariant.rows)
@@ -26,7 +26,7 @@ add_states-states-requires c = rw c.loop.invariant.sums (few_states c.loop.invar
 pub loop-preserved : goal.loop-preserved
 loop-preserved c =
     let i = c.loop.invariant in
-    let x = plain_row _ _ _ c.in_ok-row.ensures in
+    let x = plain_row _ _ _ c.in_ok-row.ensures.read in
     record {
       rows = _;
       turned = turned_more rows_repeat _ _ _ _ _ i.turned c.loop-test.true _ x.0 x.2;
