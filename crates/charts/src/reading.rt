@@ -1,7 +1,7 @@
 ghost use Rattle.std.specs.Prelude.{◌≡◌, ◌+◌, ◌≤◌, IfOk, MatchResult, Err};
 ghost use Rattle.words.specs.Reading.{then, mapped};
 ghost use Rattle.lts.specs.Meaning.{most_states};
-ghost use Rattle.charts.specs.Rows.{stay_states, stay_words, total};
+ghost use Rattle.charts.specs.Rows.{last_second, stay_states, stay_words, total};
 ghost use Rattle.charts.specs.Reading.{read_stay, read_chart, check_chart};
 ghost use Rattle.charts.specs.Reader.{Reads, one, read_target, read_offer, read_words, head_words, read_head_of, read_plain, RowBounds, Begun, counted};
 
@@ -100,9 +100,11 @@ impl<'a> Reader<'a> {
 }
 
 // The states of the rows so far and those of the row at `place`, or the fault
-// that they are too many, of the first row with which they are.
+// that they are too many, of the first row with which they are. No row by itself has more
+// than a source may have, so the sum cannot wrap.
 fn add_states(before: Result<u32, ChartFault>, stay: Stay, place: usize) -> Result<u32, ChartFault>
-    requires { IfOk before (λ n. n ≤ most_states) }
+    requires states { IfOk before (λ n. n ≤ most_states) }
+    requires short { last_second stay ≤ 4095 }
     ensures { result ≡ then before (λ n. counted (n + stay_states stay) place) }
 {
     let states = before? + stay.states();

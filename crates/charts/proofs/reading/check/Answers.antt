@@ -20,8 +20,11 @@ returns-in_err-row c =
     let i = c.loop.invariant in
     rw (p.1, p.2) (refused_behind c.args.words.now c.in_ok-reader.reader c.in_ok-reader.ensures _ (turn_fails rows_repeat _ _ _ _ _ i.turned c.loop-test.true (plain_fault _ _ _ c.in_err-row.ensures.read)))
 
-pub add_states-states-requires : goal.add_states-states-requires
-add_states-states-requires c = rw c.loop.invariant.sums (few_states c.loop.invariant.rows)
+pub add_states-states-requires-clause-states : goal.add_states-states-requires-clause-states
+add_states-states-requires-clause-states c = rw c.loop.invariant.sums (few_states c.loop.invariant.rows)
+
+pub add_states-states-requires-clause-short : goal.add_states-states-requires-clause-short
+add_states-states-requires-clause-short c = c.in_ok-row.ensures.bounds.short
 
 pub loop-preserved : goal.loop-preserved
 loop-preserved c =
